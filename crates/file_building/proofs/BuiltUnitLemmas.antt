@@ -13,7 +13,7 @@ use Rattle.page_store.proofs.MomentLemmas.{throughout_then, throughout_weaker, t
 use Rattle.page_store.proofs.ShelfLemmas.{others_then}
 use Rattle.page_cache.specs.HeaderCalls.{MayRefuse}
 use Rattle.page_alloc.specs.declared.paged_file.PagedFile.{PagedFile}
-use Rattle.page_alloc.specs.Joining.{page_limit}
+use Rattle.page_alloc.specs.Joining.{FaultsRose, page_limit}
 use Rattle.page_alloc.specs.PagedFile.{IsOpenOver, IsNewPagedFile, MakesPagedFile, IsKeptOrRefused, counts_of, unit_of_pages}
 use Rattle.page_alloc.specs.StepLaws.{failed_after}
 use Rattle.open_file.specs.Fields.{file_schema}
@@ -27,7 +27,7 @@ use Rattle.file_building.specs.declared.built_parts.BuiltParts.TheVariants.{File
 use Rattle.file_building.specs.declared.file_parts.FileParts.{FileParts}
 use Rattle.file_building.specs.BuiltParts.{CanBuildParts, BuildsOnPages, EndsParts, ArePartsOf, AreBuiltPartsOf}
 use Rattle.file_building.specs.BuiltUnit.{file_of_records, IsBuiltRefused, EndsBuilt, WhereAllTaken, BuildsOnShelf}
-use Rattle.file_building.specs.Closing.{ClosesWithCount, HasCounted, EndsCounted}
+use Rattle.file_building.specs.Closing.{ClosesWithCount, HasCounted, EndsCounted, IsUnclosedFor}
 use Rattle.file_building.specs.Filling.{IsBlank, IsFullFile}
 use Rattle.file_building.specs.NewFile.{IsOldOrWhole, ReadsOldOrWhole}
 use Rattle.file_building.specs.Written.{AreAccepted, RecordsRise, rows_with_stamps}
@@ -66,7 +66,7 @@ kept_left old new leaves (inr refused) = inr (refused new.seen leaves)
 -- where all records were taken
 pub where_taken : (fact : Type 0) (end : FileBuilt) → fact → WhereAllTaken fact end
 where_taken fact (Closed count) is = is
-where_taken fact (Unclosed count) is = is
+where_taken fact (Unclosed count fault) is = is
 where_taken fact OutOfOrder is = tt
 where_taken fact Clash is = tt
 
@@ -78,6 +78,13 @@ later_cause rose rose_later full full_later fault means more is = record {
   not_broken = is.not_broken;
 }
 
+-- a closing that failed, as the whole call
+later_unclosed : (rose rose_later : Type 0) (end : FileBuilt) → (rose → rose_later) → IsUnclosedFor rose end → IsUnclosedFor rose_later end
+later_unclosed rose rose_later (Closed count) means is = tt
+later_unclosed rose rose_later (Unclosed count fault) means is = record { device = is.device; counted = means is.counted }
+later_unclosed rose rose_later OutOfOrder means is = tt
+later_unclosed rose rose_later Clash means is = tt
+
 -- what is told of it
 module _ (schema : Schema) (given : List (List ℕ)) (before after : DeviceFile) (accepted : AreAccepted schema given empty_file) (rise : RecordsRise schema given)
     (reads : ClosedFileOrRefused schema (file_of_records schema given) after.seen) (law : Leaves after after.seen) where
@@ -88,7 +95,7 @@ module _ (schema : Schema) (given : List (List ℕ)) (before after : DeviceFile)
     closed = (content after, is.0 after.seen law, is.1);
     count_is = is.2 ∙ file_many schema given rise;
   }
-  counted_so (Unclosed count) is = record { accepted = accepted; reads = reads; count_is = is ∙ file_many schema given rise }
+  counted_so (Unclosed count fault) is = record { accepted = accepted; reads = reads; count_is = is ∙ file_many schema given rise }
   counted_so OutOfOrder is = absurd is
   counted_so Clash is = absurd is
 
@@ -127,10 +134,10 @@ module _ (unit limit : ℕ) (schema : Schema) (given : List (List ℕ)) (a : Pag
     }
 
     -- they were not, and this is told
-    pub told_by : (end : FileBuilt) → (IsTrue s2.is_honest → Leaves (unit_file s2 unit) (unit_file s2 unit).seen)
+    pub told_by : (end : FileBuilt) → IsUnclosedFor (FaultsRose k0 k2) end → (IsTrue s2.is_honest → Leaves (unit_file s2 unit) (unit_file s2 unit).seen)
         → (IsTrue s2.is_honest → EndsBuilt schema given (unit_file s0 unit) (unit_file s2 unit) end)
         → BuildsOnShelf unit limit schema given (counted_shelf s0 k0) (counted_shelf s2 k2) (Ok end)
-    told_by end law ends = record {
+    told_by end why law ends = record {
       ends = ends;
       images = whole_images;
       reads = λ honest. inl (inr (refused_by honest (unit_file s2 unit).seen (law honest)));
@@ -138,6 +145,7 @@ module _ (unit limit : ℕ) (schema : Schema) (given : List (List ℕ)) (a : Pag
       others = others_by;
       count = let more = fills.count in omega (arith, count);
       cause = tt;
+      unclosed = why;
       no_damage = λ honest. tt;
     }
 
@@ -145,14 +153,14 @@ module _ (unit limit : ℕ) (schema : Schema) (given : List (List ℕ)) (a : Pag
   pub built_stopped : (s2 : ShelfState) (k2 : ℕ) (found : BuiltParts) → found ≡ PartsStopped
       → BuildsOnPages a schema given (counted_shelf s1 k1) (counted_shelf s2 k2) (Ok found) → (IsTrue s2.is_honest → Leaves (unit_file s2 unit) (unit_file s2 unit).seen)
       → BuildsOnShelf unit limit schema given (counted_shelf s0 k0) (counted_shelf s2 k2) (Ok OutOfOrder)
-  built_stopped s2 k2 found found_is fills law = told_by s2 k2 (Ok found) fills OutOfOrder law
+  built_stopped s2 k2 found found_is fills law = told_by s2 k2 (Ok found) fills OutOfOrder tt law
       (λ honest. (subst (EndsParts schema given s2) found_is (fills.built honest blank).answer, left_refused s2 k2 (Ok found) fills law honest))
 
   -- a record clashed
   pub built_clashed : (s2 : ShelfState) (k2 : ℕ) (found : BuiltParts) → found ≡ PartsClashed
       → BuildsOnPages a schema given (counted_shelf s1 k1) (counted_shelf s2 k2) (Ok found) → (IsTrue s2.is_honest → Leaves (unit_file s2 unit) (unit_file s2 unit).seen)
       → BuildsOnShelf unit limit schema given (counted_shelf s0 k0) (counted_shelf s2 k2) (Ok Clash)
-  built_clashed s2 k2 found found_is fills law = told_by s2 k2 (Ok found) fills Clash law
+  built_clashed s2 k2 found found_is fills law = told_by s2 k2 (Ok found) fills Clash tt law
       (λ honest. (subst (EndsParts schema given s2) found_is (fills.built honest blank).answer, left_refused s2 k2 (Ok found) fills law honest))
 
   -- a fault
@@ -168,6 +176,7 @@ module _ (unit limit : ℕ) (schema : Schema) (given : List (List ℕ)) (a : Pag
     count = let more = fills.count in omega (arith, count);
     cause = later_cause _ _ _ _ fault (λ rose. failed_after k0 k1 k2 count rose)
         (λ full. subst (λ n. IsFullFile unit n s2) (ap page_limit made.pager) (subst (λ n. IsFullFile n (page_limit (counts_of a)) s2) made.unit_is full)) fills.cause;
+    unclosed = tt;
     no_damage = λ honest. (fills.built honest blank).no_damage;
   }
 
@@ -220,6 +229,7 @@ module _ (unit limit : ℕ) (schema : Schema) (given : List (List ℕ)) (a : Pag
     others = others_to s2 s3 k2 k3 found parts found_is fills end closes law;
     count = let more = fills.count in let most = closes.count in omega (arith, count);
     cause = tt;
+    unclosed = later_unclosed _ _ end (λ rose. failed_after k0 k2 k3 (let more = fills.count in omega (arith, count)) rose) closes.cause;
     no_damage = λ honest. tt;
   }
 
@@ -241,6 +251,7 @@ not_made state count unit limit schema given before after fault law makes =
       others = makes.others;
       count = makes.no_fewer;
       cause = record { device = why.0; full = λ e. absurd (no_full why.1 e); not_broken = no_broken why.1 };
+      unclosed = tt;
       no_damage = λ honest. no_damage why.1;
     }
   where

@@ -175,9 +175,6 @@ entry_more schema k i r fronts old e size is had =
 
 -- ---- the lengths of entries
 
-abbrev pub blank : Ranked
-blank = record { value = record { ref_ptr = (0, 0); now = [] }; stamp = 0; prime = record { ref_ptr = (0, 0); now = [] } }
-
 pub fit_at : (w p : ℕ) (xs : List Ranked) (i : ℕ) (d : Ranked) → i < length xs → FitIndex w p (ranked_entries xs) → (length (slice_index_or xs i d).value.now ≡ w) × (length (slice_index_or xs i d).prime.now ≡ p)
 fit_at w p [] i d within fit = absurd (omega (arith, within))
 fit_at w p (x ∷ xs) zero d within fit = fit.0

@@ -12,6 +12,7 @@ pub mod BuiltLemmas
 pub mod RecordLemmas
 pub mod AlternateLemmas
 pub mod DifferLemmas
+pub mod ValueLeadLemmas
 pub mod UntiedLemmas
 pub mod WalkLemmas
 pub mod RisingLemmas

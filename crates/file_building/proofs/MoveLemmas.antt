@@ -1,5 +1,5 @@
 -- What the copy of the file of a header comes to, from what its steps leave.
-use Rattle.std.proofs.Common.{zero, suc, ◌≡◌, ◌≤◌, ◌<◌, ℕ, length, ◌⊎◌, inl, inr, false, IsTrue, Result, Ok, Err, refl, sym, ◌∙◌, ap, subst, arith}
+use Rattle.std.proofs.Common.{zero, suc, ◌≡◌, ◌≢◌, ◌≤◌, ◌<◌, ℕ, length, ◌⊎◌, inl, inr, false, IsTrue, Result, Ok, Err, refl, sym, ◌∙◌, ap, subst, arith}
 use Rattle.std.specs.Prelude.{IfErr}
 use Rattle.std.proofs.lemmas.Bool.{le-ltb, lt-ltb}
 use Rattle.io_state.specs.declared.fault.Fault.{Fault}
@@ -35,6 +35,10 @@ pub none_counted : (n : ℕ) → is_page 1 n ≡ false
 none_counted zero = refl
 none_counted (suc n) = rw (lt-ltb 0 (suc n) (omega arith), le-ltb (suc n) 1 (omega arith)) refl
 
+-- a fault that is Device is no other
+device_is : (fault other : Fault) → fault ≡ Device → Device ≢ other → fault ≢ other
+device_is fault other is differ e = differ (sym is ∙ e)
+
 -- a fault of the closing, as one of the copy
 closing_damage : (failed : Type 0) (result : Result Copied CopyingFault) → IfErr result (IsClosingCause failed) → IfErr result IsNoSourceDamage
 closing_damage failed (Ok copied) is = tt
@@ -43,7 +47,7 @@ closing_damage failed (Err NotAccepted) is = tt
 closing_damage failed (Err NoKey) is = tt
 closing_damage failed (Err IsThere) is = tt
 closing_damage failed (Err (Reading fault)) is = absurd is
-closing_damage failed (Err (Writing fault)) is = is.1
+closing_damage failed (Err (Writing fault)) is = device_is fault Damage is.device (λ (same : Device ≡ Damage). absurd (cc))
 
 closing_cause : (failed read wrote full : Type 0) (result : Result Copied CopyingFault) → (failed → wrote) → IfErr result (IsClosingCause failed) → IfErr result (IsMovingCause read wrote full)
 closing_cause failed read wrote full (Ok copied) means is = tt
@@ -53,9 +57,9 @@ closing_cause failed read wrote full (Err NoKey) means is = is
 closing_cause failed read wrote full (Err IsThere) means is = is
 closing_cause failed read wrote full (Err (Reading fault)) means is = absurd is
 closing_cause failed read wrote full (Err (Writing fault)) means is = record {
-  device = λ e. means (is.0.device e);
-  full = λ e. absurd (is.0.full e);
-  not_broken = is.0.not_broken;
+  device = λ e. means is.counted;
+  full = λ e. absurd (device_is fault Full is.device (λ (same : Device ≡ Full). absurd (cc)) e);
+  not_broken = device_is fault Broken is.device (λ (same : Device ≡ Broken). absurd (cc));
 }
 
 closing_stays : (failed : Type 0) (old new : DeviceFile) (result : Result Copied CopyingFault) → IfErr result (IsClosingCause failed) → IfErr result (CopyGivesUp old new)

@@ -1,20 +1,24 @@
 -- Entries no two of which have one rank: sorted, they rise.
-use Rattle.std.proofs.Common.{◌≡◌, inl, inr, ℕ, suc, ◌<◌, true, false, List, [], ◌∷◌, length, refl, ap, sym, subst, ◌∙◌, arith}
+use Rattle.std.proofs.Common.{◌≡◌, ◌≢◌, ◌≤◌, inl, inr, ℕ, suc, ◌<◌, true, false, List, [], ◌∷◌, length, refl, ap, sym, subst, ◌∙◌, arith}
 use Rattle.std.specs.Prelude.{slice_index_or}
 use Rattle.std.specs.Ordering.{is_lt, nat_cmp, ordering_then}
 use Rattle.std.specs.declared.cmp.Ordering.{Ordering}
+use Rattle.std.specs.declared.cmp.Ordering.TheVariants.{Less, Equal, Greater}
+use Rattle.std.specs.Cmp.{nat_cmp_is}
 use Rattle.std.proofs.lemmas.Grind.{common_steps}
 use Rattle.pages.specs.Each.{Each}
 use Rattle.pages.proofs.EachLemmas.{each_weaker}
 use Rattle.io_state.specs.Rank.{value_cmp}
 use Rattle.record_heap.specs.Chain.{IsOneOf}
 use Rattle.key_index.specs.declared.entry.AltEntry.{AltEntry}
+use Rattle.key_index.proofs.OrderLemmas.{by_order}
 use Rattle.open_file.proofs.OrderLemmas.{either}
 use Rattle.file_building.specs.declared.ranked.Ranked.{Ranked}
 use Rattle.file_building.specs.Ranks.{RisesBy, is_lower, RanksRise}
 use Rattle.file_building.specs.Entries.{entry_in, ranked_entries}
 use Rattle.file_building.proofs.SortedLemmas.{put_by, sorted_by, Untied, AreUntied, are_sorted, are_untied}
 use Rattle.file_building.proofs.RankLemmas.{onward, itself, decide}
+use Rattle.file_building.proofs.ValueLeadLemmas.{lead_rises}
 
 each_in : (P : AltEntry → Type 0) (r : AltEntry) (xs : List AltEntry) → P r → Each P xs → Each P (put_by is_lower r xs)
 each_in P r [] p ps = (p, tt)
@@ -79,10 +83,28 @@ module _ (ord : Ranked → Ranked → Ordering) (gives : (a b : Ranked) → is_l
 -- ---- the order of the parts
 
 abbrev pub parts_cmp : Ranked → Ranked → Ordering
-parts_cmp a b = ordering_then (value_cmp a.value.now b.value.now) (ordering_then (nat_cmp a.stamp b.stamp) (value_cmp a.prime.now b.prime.now))
+parts_cmp a b = ordering_then (nat_cmp a.lead b.lead)
+    (ordering_then (value_cmp a.value.now b.value.now) (ordering_then (nat_cmp a.stamp b.stamp) (value_cmp a.prime.now b.prime.now)))
 
-first_two : (v s p : Ordering) → is_lt (ordering_then v s) ≡ true → is_lt (ordering_then v (ordering_then s p)) ≡ true
-first_two v s p low = grind (arith, common_steps)
+-- what is less by its value, or alike and less by its stamp, is not greater by its value
+no_greater : (v s : Ordering) → is_lt (ordering_then v s) ≡ true → v ≢ Greater
+no_greater v s low above = let bad : is_lt (ordering_then Greater s) ≡ true = ap (λ (o : Ordering). is_lt (ordering_then o s)) (sym above) ∙ low in absurd (cc)
+
+-- a first number that is no greater leaves it so
+by_lead : (l v s p : Ordering) → l ≢ Greater → is_lt (ordering_then v s) ≡ true → is_lt (ordering_then l (ordering_then v (ordering_then s p))) ≡ true
+by_lead Less v s p kept low = refl
+by_lead Equal v s p kept low = grind (arith, common_steps)
+by_lead Greater v s p kept low = absurd (kept refl)
+
+no_less_number : (x y : ℕ) → x ≤ y → nat_cmp x y ≢ Greater
+no_less_number x y within = by_order x y (nat_cmp x y ≢ Greater)
+    (λ less above. let bad : Less ≡ Greater = nat_cmp_is x y Less less ∙ above in absurd (cc))
+    (λ same above. let bad : Equal ≡ Greater = nat_cmp_is x y Equal same ∙ above in absurd (cc))
+    (λ greater. absurd (omega (arith, within, greater)))
 
 pub lower_parts : (a b : Ranked) → is_lower (entry_in a) (entry_in b) ≡ true → is_lt (parts_cmp a b) ≡ true
-lower_parts a b low = first_two (value_cmp a.value.now b.value.now) (nat_cmp a.stamp b.stamp) (value_cmp a.prime.now b.prime.now) low
+lower_parts a b low =
+    let order = no_greater (value_cmp a.value.now b.value.now) (nat_cmp a.stamp b.stamp) low in
+    let leads = lead_rises a.value.now b.value.now a.bytes b.bytes order in
+    let within : a.lead ≤ b.lead = omega (arith, leads, a.led, b.led) in
+    by_lead (nat_cmp a.lead b.lead) (value_cmp a.value.now b.value.now) (nat_cmp a.stamp b.stamp) (value_cmp a.prime.now b.prime.now) (no_less_number a.lead b.lead within) low

@@ -14,6 +14,7 @@ use Rattle.shelf_library.specs.FileOpening.{CountedShelf, counted_shelf}
 use Rattle.tree_building.specs.Fresh.{IsBuildCause}
 use Rattle.file_building.specs.declared.built_end.FileBuilt.{FileBuilt}
 use Rattle.file_building.specs.declared.built_end.FileBuilt.TheVariants.{Closed, Unclosed, OutOfOrder, Clash}
+use Rattle.file_building.specs.Closing.{IsUnclosedFor}
 use Rattle.file_building.specs.Filling.{IsFullFile}
 use Rattle.file_building.specs.NewFile.{IsClosedFor, IsOldOrWhole, ReadsOldOrWhole}
 use Rattle.file_building.specs.Written.{with_all_added, AreAccepted, RecordsRise}
@@ -47,7 +48,7 @@ pub record IsBuiltRefused (old new : DeviceFile) : Type 0 where
 -- clashed with those before it
 abbrev pub EndsBuilt : Schema → List (List ℕ) → (old new : DeviceFile) → FileBuilt → Type 0
 EndsBuilt schema records old new (Closed count) = IsBuiltWhole schema records count new
-EndsBuilt schema records old new (Unclosed count) = IsBuiltUnclosed schema records count new
+EndsBuilt schema records old new (Unclosed count fault) = IsBuiltUnclosed schema records count new
 EndsBuilt schema records old new OutOfOrder = (RecordsRise schema records → ⊥) × IsBuiltRefused old new
 EndsBuilt schema records old new Clash =
     (AreAccepted schema records empty_file → ⊥) × IsBuiltRefused old new
@@ -55,14 +56,14 @@ EndsBuilt schema records old new Clash =
 -- where all records were taken, this is so
 abbrev pub WhereAllTaken : Type 0 → FileBuilt → Type 0
 WhereAllTaken fact (Closed count) = fact
-WhereAllTaken fact (Unclosed count) = fact
+WhereAllTaken fact (Unclosed count fault) = fact
 WhereAllTaken fact OutOfOrder = ⊤
 WhereAllTaken fact Clash = ⊤
 
 -- A call that builds the file of a unit from records, in the place of what its name stood for. Where no
 -- wrong answer of the device was taken as true, it ended so; at each moment, and after a fault too, a
 -- crash leaves what it could leave before, a refused file, or the whole one; and so do reads in the end.
--- Always each other file stays, and each fault has its cause.
+-- Always each other file stays, and each fault has its cause, that of a closing which failed too.
 pub record BuildsOnShelf (unit limit : ℕ) (schema : Schema) (records : List (List ℕ)) (old new : CountedShelf)
     (result : Result FileBuilt Fault) : Type 0 where
   pub ends : IsTrue new.shelf.is_honest
@@ -77,6 +78,7 @@ pub record BuildsOnShelf (unit limit : ℕ) (schema : Schema) (records : List (L
   pub others : KeepsOthers unit old.shelf new.shelf
   pub count : old.faults ≤ new.faults
   pub cause : IfErr result (IsBuildCause (FaultsRose old.faults new.faults) (IsFullFile unit limit new.shelf))
+  pub unclosed : IfOk result (IsUnclosedFor (FaultsRose old.faults new.faults))
   pub no_damage : IsTrue new.shelf.is_honest → IfErr result (λ fault. fault ≢ Damage)
 
 -- the same, of shelves that show this state and count their faults so

@@ -1,7 +1,5 @@
 -- The new file, closed.
-use Rattle.std.specs.Prelude.{◌≡◌, ◌≢◌, ◌≤◌, ℕ, true, IsTrue, IsFalse, length, Result, IfOk, OnOk, IfErr}
-use Rattle.io_state.specs.declared.fault.Fault.{Fault}
-use Rattle.io_state.specs.declared.fault.Fault.TheVariants.{Damage}
+use Rattle.std.specs.Prelude.{◌≡◌, ◌≤◌, ℕ, true, IsTrue, IsFalse, length, Result, IfOk, OnOk, IfErr, ⊤}
 use Rattle.record_layout.specs.Schema.{Schema}
 use Rattle.indexed_file.specs.File.{File}
 use Rattle.page_store.specs.DeviceFile.{DeviceFile, content}
@@ -15,11 +13,10 @@ use Rattle.shelf_library.specs.ClosedFile.{AreClosed}
 use Rattle.shelf_library.specs.FileOpening.{CountedShelf, counted_shelf}
 use Rattle.shelf_library.specs.Shelves.{ClosedFileOrRefused}
 use Rattle.shelf_library.specs.Standing.{IsReady, StandsFor}
-use Rattle.tree_building.specs.Fresh.{IsBuildCause}
 use Rattle.file_building.specs.declared.built_end.FileBuilt.{FileBuilt}
 use Rattle.file_building.specs.declared.built_end.FileBuilt.TheVariants.{Closed, Unclosed, OutOfOrder, Clash}
 use Rattle.file_building.specs.declared.file_parts.FileParts.{FileParts}
-use Rattle.file_building.specs.Parts.{joined_file, HavePages}
+use Rattle.file_building.specs.Parts.{joined_file, HavePages, IsDeviceFault}
 use Rattle.file_building.specs.declared.fault.Copied.{Copied}
 use Rattle.file_building.specs.declared.fault.CopyingFault.{CopyingFault}
 use Rattle.file_building.specs.Faults.{IsClosingCause}
@@ -59,7 +56,7 @@ pub record ClosesNew (parts : FileParts) (old new : CountedShelf) (result : Resu
 abbrev pub HasCounted : Schema → File → DeviceFile → FileBuilt → Type 0
 HasCounted schema file new (Closed count) =
     IsSettled new × AreClosed schema file (content new) × (count ≡ length file.rows)
-HasCounted schema file new (Unclosed count) = count ≡ length file.rows
+HasCounted schema file new (Unclosed count fault) = count ≡ length file.rows
 HasCounted schema file new OutOfOrder = ⊥
 HasCounted schema file new Clash = ⊥
 
@@ -68,6 +65,13 @@ pub record EndsCounted (schema : Schema) (file : File) (old new : DeviceFile) (b
   pub images : Throughout (ClosedFileOrRefused schema file) old new
   pub ends : HasCounted schema file new built
 
+-- where its closing failed, it was for this cause
+abbrev pub IsUnclosedFor : (failed : Type 0) → FileBuilt → Type 0
+IsUnclosedFor failed (Closed count) = ⊤
+IsUnclosedFor failed (Unclosed count fault) = IsDeviceFault failed fault
+IsUnclosedFor failed OutOfOrder = ⊤
+IsUnclosedFor failed Clash = ⊤
+
 -- a call that closes a file, and tells how many records it has
 pub record ClosesWithCount (parts : FileParts) (old new : CountedShelf) (built : FileBuilt) : Type 0 where
   pub closes : IsTrue new.shelf.is_honest → (file : File) → StandsFor (joined_file parts) old.shelf file
@@ -75,6 +79,7 @@ pub record ClosesWithCount (parts : FileParts) (old new : CountedShelf) (built :
       (unit_file new.shelf (unit_of_pages parts.pages)) built
   pub others : KeepsOthers (unit_of_pages parts.pages) old.shelf new.shelf
   pub count : old.faults ≤ new.faults
+  pub cause : IsUnclosedFor (FaultsRose old.faults new.faults) built
 
 -- the same, of shelves that show this state and count their faults so
 module _ {H : Type 0} (state : H → ShelfState) (count : H → ℕ) where

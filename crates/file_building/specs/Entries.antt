@@ -1,5 +1,5 @@
 -- The entries that an alternate key has of records.
-use Rattle.std.specs.Prelude.{◌≡◌, ℕ, ◌+◌, ◌*◌, List, [], ◌∷◌, length, map, take, if◌then◌else◌}
+use Rattle.std.specs.Prelude.{◌≡◌, ℕ, ◌+◌, ◌*◌, ◌/◌, List, [], ◌∷◌, length, map, take, if◌then◌else◌}
 use Rattle.record_layout.specs.Schema.{Schema, key_at, value_of, prime_of, has_duplicates}
 use Rattle.pages.specs.Chunks.{chunks}
 use Rattle.key_index.specs.declared.entry.AltEntry.{AltEntry}
@@ -27,6 +27,11 @@ abbrev pub entries_from : Schema → ℕ → ℕ → List (List ℕ) → List Al
 entries_from schema k stamp [] = []
 entries_from schema k stamp (bytes ∷ records) =
     entry_of_new schema k stamp bytes ∷ entries_from schema k (stamp + 1) records
+
+-- the entries of records by their fronts, which lie one behind another; the first takes stamp 1
+abbrev pub entries_of_fronts : Schema → ℕ → List ℕ → List AltEntry
+entries_of_fronts schema k fronts =
+    entries_from schema k 1 (chunks schema.least (length fronts / schema.least) fronts)
 
 -- the front of each record, as many bytes as the shortest has: a value of each key is in it
 pub record AreFronts (schema : Schema) (records : List (List ℕ)) (fronts : List ℕ) : Type 0 where

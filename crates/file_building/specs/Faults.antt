@@ -3,6 +3,7 @@ use Rattle.std.specs.Prelude.{◌≡◌, ◌≢◌, ⊤, Result, IfOk, IfErr}
 use Rattle.io_state.specs.declared.fault.Fault.{Fault}
 use Rattle.io_state.specs.declared.fault.Fault.TheVariants.{Device, Memory, Full, Damage, Broken}
 use Rattle.tree_building.specs.Fresh.{IsBuildCause}
+use Rattle.file_building.specs.Parts.{IsDeviceFault}
 use Rattle.file_building.specs.declared.copy_fault.CopyFault.{CopyFault}
 use Rattle.file_building.specs.declared.copy_fault.CopyFault.TheVariants.{Reading as OfFile, Writing as OfCopy}
 use Rattle.file_building.specs.declared.fault.CopyingFault.{CopyingFault}
@@ -30,14 +31,14 @@ IsMovingCause reading_failed writing_failed ran_out (Reading fault) = IsReadingC
 IsMovingCause reading_failed writing_failed ran_out (Writing fault) =
     IsBuildCause writing_failed ran_out fault
 
--- why the new file was not closed
+-- why the new file was not closed: a call on its shelf failed, and nothing else
 abbrev pub IsClosingCause : Type 0 → CopyingFault → Type 0
 IsClosingCause failed NoneToCopy = ⊥
 IsClosingCause failed NotAccepted = ⊥
 IsClosingCause failed NoKey = ⊥
 IsClosingCause failed IsThere = ⊥
 IsClosingCause failed (Reading fault) = ⊥
-IsClosingCause failed (Writing fault) = IsBuildCause failed ⊥ fault × (fault ≢ Damage)
+IsClosingCause failed (Writing fault) = IsDeviceFault failed fault
 
 -- why a copy gave up: so, or it was not begun
 abbrev pub IsCopyingCause : (reading_failed writing_failed ran_out : Type 0) → CopyingFault → Type 0

@@ -3,6 +3,7 @@ pub mod Steps
 pub mod Ranks
 pub mod Rows
 pub mod Stamps
+pub mod ValueLead
 pub mod Entries
 pub mod Alternates
 pub mod Opening

@@ -22,8 +22,8 @@ use std::num::NonZeroUsize;
 /// `memory` in all.
 ///
 /// The file is refused until all of it is written. `OutOfOrder`, `Clash`: it is left so. `Unclosed`: it is
-/// refused, or whole and closed. Device; Full; Memory, also where `memory` is too few bytes: the file is as
-/// it was or refused then.
+/// refused, or whole and closed, and the fault is Device. Device; Full; Memory, also where `memory` is too
+/// few bytes: the file is as it was or refused then.
 pub fn build_closed<S: Shelf, R: RecordSource>(
     alloc: Global,
     shelf: &mut S,

@@ -32,6 +32,6 @@ pub fn close_counted<T: Shelf>(shelf: &mut T, parts: FileParts) -> FileBuilt
     let records = parts.file.prime().count();
     match parts.close(shelf) {
         Ok(()) => FileBuilt::Closed { records },
-        Err(_) => FileBuilt::Unclosed { records },
+        Err(fault) => FileBuilt::Unclosed { records, fault },
     }
 }

@@ -18,7 +18,8 @@ use std::num::NonZeroUsize;
 
 /// Makes the file of `unit`, which is not there yet, with what the closed file of `source` on
 /// another shelf has: the same records with the same stamps. They lie in the order of a key, by its
-/// number: 0 is the prime key, and 1 to 8 are the alternate keys. It may grow to `limit` pages; at most `frames` pages of each file are held in memory.
+/// number: 0 is the prime key, and 1 to 8 are the alternate keys. It may grow to `limit` pages; at most
+/// `frames` pages of each file are held in memory.
 ///
 /// The file that is copied is only read. The new one is refused until all of it is written.
 /// `NoneToCopy`, `NotAccepted`, `NoKey`, `IsThere`: nothing was written. `Reading`: Device; Damage where an

@@ -1,11 +1,10 @@
 //! The entries of an alternate key.
 
-ghost use Rattle.std.specs.Prelude.{◌≡◌, ◌<◌, ◌↔◌, ◌/◌, length, IfOk, IsOkUnless, IsTrue};
-ghost use Rattle.pages.specs.Chunks.{chunks};
-ghost use Rattle.file_building.specs.Entries.{ranked_entries, entries_from};
+ghost use Rattle.std.specs.Prelude.{◌≡◌, ◌<◌, ◌↔◌, length, IfOk, IsOkUnless, IsTrue};
+ghost use Rattle.file_building.specs.Entries.{ranked_entries, entries_of_fronts};
 ghost use Rattle.file_building.specs.Ranks.{RanksRise};
 
-use crate::ranked::{Ranked, entry_of_record, is_lower};
+use crate::ranked::Ranked;
 use io_state::Fault;
 use record_layout::Schema;
 use std::alloc::Global;
@@ -18,8 +17,8 @@ pub fn entries_of<'a>(
     fronts: &'a [u8],
 ) -> Result<Vec<Ranked<'a>>, Fault>
     requires { k < length schema.now.keys }
-    ensures entries { IfOk result (λ entries. ranked_entries entries.items ≡ entries_from schema.now k 1
-        (chunks schema.now.least (length fronts.now / schema.now.least) fronts.now)) }
+    ensures entries { IfOk result (λ entries.
+        ranked_entries entries.items ≡ entries_of_fronts schema.now k fronts.now) }
     ensures only_memory { IsOkUnless result Fault.Memory }
 {
     let least = usize::from(schema.least());
@@ -27,7 +26,7 @@ pub fn entries_of<'a>(
     let mut entries = Vec::new(alloc);
     for i in 0..count {
         let front = &fronts[i * least..(i + 1) * least];
-        let entry = entry_of_record(schema, k, front, i as u64 + 1);
+        let entry = Ranked::of_record(schema, k, front, i as u64 + 1);
         if entries.push(entry).is_err() {
             return Err(Fault::Memory);
         }
@@ -40,7 +39,7 @@ pub fn rise(entries: &[Ranked<'_>]) -> bool
     ensures { IsTrue result ↔ RanksRise (ranked_entries entries.now) }
 {
     for i in 1..entries.len() {
-        if !is_lower(&entries[i - 1], &entries[i]) {
+        if !entries[i - 1].is_lower(&entries[i]) {
             return false;
         }
     }

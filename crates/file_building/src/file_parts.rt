@@ -6,7 +6,7 @@ ghost use Rattle.open_file.specs.Headers.{IsHeaderOf};
 ghost use Rattle.open_file.specs.Stands.{IsShaped};
 ghost use Rattle.shelf_library.specs.Standing.{IsReady};
 ghost use Rattle.shelf_library.specs.FileOpening.{CountsPages, OpensByHeader, ClosesHeld};
-ghost use Rattle.file_building.specs.Parts.{joined_file, joined_answer, ClosesCounted};
+ghost use Rattle.file_building.specs.Parts.{joined_file, joined_answer, ClosesCounted, FailsToClose};
 
 use io_state::Fault;
 use open_file::{Header, OpenFile};
@@ -54,11 +54,12 @@ impl FileParts {
     /// changed, nothing is written; and nothing is where an earlier change failed, which is
     /// answered Broken.
     ///
-    /// Device, Broken.
+    /// Broken; else Device.
     pub fn close<S: Shelf>(&mut self, shelf: &mut S) -> Result<(), Fault>
         requires ready { IsReady (joined_file self.old) (S.state shelf.old) }
         ensures closes { ClosesHeld S.state S.fault_count (joined_file self.old) shelf.old shelf.new result }
         ensures counted { ClosesCounted (joined_file self.old) (S.state shelf.old) (S.state shelf.new) result }
+        ensures cause { FailsToClose self.old.file (S.fault_count shelf.old) (S.fault_count shelf.new) result }
     {
         if self.file.is_broken() {
             return Err(Fault::Broken);

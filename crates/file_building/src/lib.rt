@@ -44,6 +44,7 @@ mod rows;
 mod rows_builder;
 mod rows_by_key;
 mod stamps;
+mod value_lead;
 mod walk;
 
 pub use building::build_closed;

@@ -1,50 +1,51 @@
 //! The entry of a record in an alternate key, by its parts.
 
-ghost use Rattle.std.specs.Prelude.{◌≡◌, ◌<◌, ◌≤◌, length};
-ghost use Rattle.std.specs.Ordering.{is_lt};
-ghost use Rattle.file_building.specs.Entries.{entry_in, entry_of_new, stamp_of_key};
-ghost use Rattle.file_building.specs.Ranks.{is_lower};
+ghost use Rattle.std.specs.Prelude.{◌≡◌, ◌<◌, ℕ, slice_index};
+ghost use Rattle.file_building.specs.ValueLead.{lead_of_value};
 
+use crate::stamps::stamp_by;
+use crate::value_lead::lead_of_value;
 use record_layout::Schema;
 
-/// The value of a record, its stamp, and its prime value, by which entries are ordered.
+/// The value of a record, its stamp, and its prime value, by which entries are ordered. What the value
+/// begins with tells most of them apart, with no look at bytes that lie elsewhere.
 #[derive(Clone, Copy, PartialEq, Eq, PartialOrd, Ord)]
 pub struct Ranked<'a> {
+    pub lead: u64,
     pub value: &'a [u8],
     pub stamp: u64,
     pub prime: &'a [u8],
+    ghost led: { lead ≡ lead_of_value value.now },
+    ghost bytes: { (i : ℕ) → slice_index value.now i < 256 },
 }
 
-/// The entry that key `k` has of a new record.
-pub fn entry_of_record<'a>(schema: &Schema, k: u8, record: &'a [u8], stamp: u64) -> Ranked<'a>
-    requires key { k < length schema.now.keys }
-    requires whole { schema.now.least ≤ length «record».now }
-    ensures { entry_in result ≡ entry_of_new schema.now k stamp «record».now }
-{
-    let value = schema.value(record, k);
-    let stamp = stamp_by(schema, k, stamp);
-    Ranked {
-        value,
-        stamp,
-        prime: schema.value(record, 0),
+impl<'a> Ranked<'a> {
+    ghost use Rattle.std.specs.Prelude.{◌≤◌, length};
+    ghost use Rattle.file_building.specs.Entries.{entry_in, entry_of_new};
+    ghost use Rattle.file_building.specs.Ranks.{is_lower};
+
+    /// The entry that key `k` has of a new record.
+    pub fn of_record(schema: &Schema, k: u8, record: &'a [u8], stamp: u64) -> Ranked<'a>
+        requires key { k < length schema.now.keys }
+        requires whole { schema.now.least ≤ length «record».now }
+        ensures { entry_in result ≡ entry_of_new schema.now k stamp «record».now }
+    {
+        let value = schema.value(record, k);
+        Ranked {
+            lead: lead_of_value(value),
+            value,
+            stamp: stamp_by(schema, k, stamp),
+            prime: schema.value(record, 0),
+        }
     }
-}
 
-/// The stamp that a new record has in key `k`.
-fn stamp_by(schema: &Schema, k: u8, stamp: u64) -> u64
-    requires { k < length schema.now.keys }
-    ensures { result ≡ stamp_of_key schema.now k stamp }
-{
-    if schema.part(k).has_duplicates() {
-        stamp
-    } else {
-        0
+    /// It is of a lower rank than another entry.
+    pub fn is_lower(&self, other: &Ranked<'_>) -> bool
+        ensures { result ≡ is_lower (entry_in self.now) (entry_in other.now) }
+    {
+        self.value
+            .cmp(other.value)
+            .then(self.stamp.cmp(&other.stamp))
+            .is_lt()
     }
-}
-
-/// One entry is of a lower rank than another.
-pub fn is_lower(a: &Ranked<'_>, b: &Ranked<'_>) -> bool
-    ensures { result ≡ is_lower (entry_in a.now) (entry_in b.now) }
-{
-    a.value.cmp(b.value).then(a.stamp.cmp(&b.stamp)).is_lt()
 }

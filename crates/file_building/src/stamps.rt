@@ -1,8 +1,9 @@
 //! The slots of a file's heap, and the stamps of a new record, which they have in front of it.
 
-ghost use Rattle.std.specs.Prelude.{◌≡◌, ◌≤◌, ◌+◌, ◌++◌, length};
+ghost use Rattle.std.specs.Prelude.{◌≡◌, ◌≤◌, ◌<◌, ◌+◌, ◌++◌, length};
 ghost use Rattle.byteorder.specs.Endian.{big_bytes};
 ghost use Rattle.record_layout.specs.Schema.{IsSchema};
+ghost use Rattle.file_building.specs.Entries.{stamp_of_key};
 ghost use Rattle.file_building.specs.Opening.{IsShapeFor};
 ghost use Rattle.file_building.specs.Stamps.{AreStampsOf};
 
@@ -53,4 +54,16 @@ fn push_stamp(stamps: &mut ArrayVec<u8, 64>, stamp: u64)
     let mut bytes = [0; 8];
     BigEndian::write_u64(&mut bytes, stamp);
     let _ = stamps.try_extend_from_slice(&bytes);
+}
+
+/// The stamp that a new record has in key `k`.
+pub fn stamp_by(schema: &Schema, k: u8, stamp: u64) -> u64
+    requires { k < length schema.now.keys }
+    ensures { result ≡ stamp_of_key schema.now k stamp }
+{
+    if schema.part(k).has_duplicates() {
+        stamp
+    } else {
+        0
+    }
 }

@@ -2,34 +2,37 @@ use Rattle.std.proofs.Common.{◌≡◌, ◌+◌, ◌≤◌, List, [], ◌∷◌
 use Rattle.tree_search.proofs.AnswerLemmas.{fails}
 use Rattle.key_index.specs.declared.entry.AltEntry.{AltEntry}
 use Rattle.tree_building.specs.IndexBuilding.{AltBuildsOn}
-use Rattle.file_building.specs.Entries.{ranked_entries}
+use Rattle.file_building.specs.declared.ranked.Ranked.{Ranked}
+use Rattle.file_building.specs.Entries.{entry_in, ranked_entries}
 use Rattle.file_building.proofs.StepLemmas.{StepLaws, index_cause, cause_since, handed_on}
-use Rattle.file_building.proofs.EntryLemmas.{blank, fit_at, next_entry, all_entries}
+use Rattle.file_building.proofs.EntryLemmas.{fit_at, next_entry, all_entries}
 use Rattle.file_building.proofs.BuiltLemmas.{built_since}
 use Rattle.file_building.proofs.alternates.push_all.Goals as goal
 
 pub set-requires-clause-value : goal.set-requires-clause-value
 set-requires-clause-value g c =
     let old = c.args.builder.now in
-    let fit = fit_at old.width old.prime c.args.entries.now c.loop-ranked.ranked-index blank c.loop-ranked-test.true c.requires.fit in
-    omega (arith, fit.0, old.wide)
+    let fit = fit_at old.width old.prime c.args.entries.now c.loop-ranked.ranked-index c.ranked-item.result c.loop-ranked-test.true c.requires.fit in
+    let value = ap (λ (x : Ranked). length x.value.now) c.ranked-item.is in
+    omega (arith, fit.0, value, old.wide)
 
 pub set-requires-clause-prime : goal.set-requires-clause-prime
 set-requires-clause-prime g c =
     let old = c.args.builder.now in
-    let fit = fit_at old.width old.prime c.args.entries.now c.loop-ranked.ranked-index blank c.loop-ranked-test.true c.requires.fit in
-    omega (arith, fit.1, old.narrow)
+    let fit = fit_at old.width old.prime c.args.entries.now c.loop-ranked.ranked-index c.ranked-item.result c.loop-ranked-test.true c.requires.fit in
+    let prime = ap (λ (x : Ranked). length x.prime.now) c.ranked-item.is in
+    omega (arith, fit.1, prime, old.narrow)
 
 pub push-requires : goal.push-requires
 push-requires g c =
     let old = c.args.builder.now in
     let inv = c.loop-ranked.invariant in
-    let fit = fit_at old.width old.prime c.args.entries.now c.loop-ranked.ranked-index blank c.loop-ranked-test.true c.requires.fit in
+    let fit = fit_at old.width old.prime c.args.entries.now c.loop-ranked.ranked-index c.ranked-item.result c.loop-ranked-test.true c.requires.fit in
     record {
       ready = g.met.P.Pages.writes_ready c.args.pages.now c.loop-ranked.pages inv.writes c.requires.target.ready;
       changing = g.met.P.Pages.writes_changing c.args.pages.now c.loop-ranked.pages inv.writes c.requires.target.open;
-      value = ap (λ (e : AltEntry). length e.value.items) c.set.ensures ∙ fit.0 ∙ sym inv.same.width_is;
-      prime = ap (λ (e : AltEntry). length e.prime.items) c.set.ensures ∙ fit.1 ∙ sym inv.same.prime_is;
+      value = ap (λ (e : AltEntry). length e.value.items) c.set.ensures ∙ ap (λ (x : Ranked). length x.value.now) c.ranked-item.is ∙ fit.0 ∙ sym inv.same.width_is;
+      prime = ap (λ (e : AltEntry). length e.prime.items) c.set.ensures ∙ ap (λ (x : Ranked). length x.prime.now) c.ranked-item.is ∙ fit.1 ∙ sym inv.same.prime_is;
     }
 
 pub returns-in_err-push-clause-pushes : goal.returns-in_err-push-clause-pushes
@@ -77,7 +80,7 @@ loop-ranked-preserved g c =
           let front = done ++ take i entries in
           let more = (pushes.pushed front had.0.own_now had.0.building).answer in
           let since = built_since begin (g.P.Pages.shown.state mid).live (g.P.Pages.shown.state late).live c.loop-ranked.builder c.push.new.self front (front ++ e ∷ []) had.0 more in
-          let next : front ++ e ∷ [] ≡ done ++ take (i + 1) entries = append_assoc done (take i entries) (e ∷ []) ∙ ap (λ (l : List AltEntry). done ++ l) (next_entry c.args.entries.now i _ e c.loop-ranked-test.true c.set.ensures) in
+          let next : front ++ e ∷ [] ≡ done ++ take (i + 1) entries = append_assoc done (take i entries) (e ∷ []) ∙ ap (λ (l : List AltEntry). done ++ l) (next_entry c.args.entries.now i c.ranked-item.result e c.loop-ranked-test.true (c.set.ensures ∙ ap entry_in c.ranked-item.is)) in
           (subst (AltBuildsOn begin (g.P.Pages.shown.state late).live c.push.new.self []) next since, pushes.sound);
     }
 

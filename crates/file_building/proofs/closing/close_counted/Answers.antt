@@ -16,6 +16,7 @@ returns-in-Ok g c =
           };
       others = close.others;
       count = close.count;
+      cause = tt;
     }
 
 pub returns : goal.returns
@@ -31,4 +32,5 @@ returns g c =
           };
       others = close.others;
       count = close.count;
+      cause = c.in-Err.ensures.cause c.requires.unbroken;
     }

@@ -11,9 +11,9 @@ loop-i-init c =
 
 pub loop-i-preserved : goal.loop-i-preserved
 loop-i-preserved c =
-    let e = c.entry_of_record-entry.result in
+    let e = c.of_record-entry.result in
     let old = c.loop-i.entries.items in
     let ok = was_ok (is_ok c.push.result) c.is_err.result c.is_err.ensures.negation c.if-is_err.false in
     let items = c.push.ensures.items ∙ ap (λ b. if b then old ++ e ∷ [] else old) ok in
     ap ranked_entries items
-    ∙ entry_more c.args.schema.now c.args.k c.loop-i.i c.from-least.result c.args.fronts.now old e (c.from-least.ensures ∙ c.least.ensures.least) c.entry_of_record-entry.ensures c.loop-i.invariant
+    ∙ entry_more c.args.schema.now c.args.k c.loop-i.i c.from-least.result c.args.fronts.now old e (c.from-least.ensures ∙ c.least.ensures.least) c.of_record-entry.ensures c.loop-i.invariant

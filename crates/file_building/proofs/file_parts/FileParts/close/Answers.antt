@@ -6,6 +6,7 @@ use Rattle.shelf_library.proofs.ClosedLemmas.{closes, on_ok_at}
 use Rattle.file_building.specs.Parts.{joined_file}
 use Rattle.page_alloc.specs.PagedFile.{unit_of_pages}
 use Rattle.file_building.proofs.PagesLemmas.{have_pages}
+use Rattle.file_building.proofs.FaultLemmas.{closing_fault}
 use Rattle.file_building.proofs.file_parts.FileParts.close.Goals as goal
 
 pub returns-clause-closes : goal.returns-clause-closes
@@ -27,6 +28,9 @@ returns-clause-closes g c = record {
   cause = first_of (search rules, grind (arith, common_steps));
   damage = first_of (search rules, grind (arith, common_steps));
 }
+
+pub returns-clause-cause : goal.returns-clause-cause
+returns-clause-cause g c = λ unbroken. closing_fault _ _ c.close.result c.close.ensures.cause
 
 pub returns-clause-counted : goal.returns-clause-counted
 returns-clause-counted g c = λ honest unbroken changed file stood.
