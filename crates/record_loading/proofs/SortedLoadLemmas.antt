@@ -8,9 +8,9 @@ use Rattle.record_loading.specs.declared.end.Load.{Load}
 use Rattle.record_loading.specs.declared.rejected.RejectedLine.{RejectedLine}
 use Rattle.record_loading.specs.declared.shelf_end.ShelfEnd.{ShelfEnd}
 use Rattle.record_loading.specs.declared.shelf_end.ShelfFault.{ShelfFault}
-use Rattle.record_loading.specs.Loaded.{EndsLoad, LoadsTold, TellsLoadEnd}
+use Rattle.record_loading.specs.Loaded.{EndsLoad, LoadsInto, TellsLoadEnd}
 use Rattle.record_loading.specs.Passing.{LoadSource, lines_form}
-use Rattle.record_loading.specs.SortedLoad.{IsLoadedText, EndsTextLoad, LoadsTextInto, source_with_text}
+use Rattle.record_loading.specs.SortedLoad.{IsLoadedText, EndsTextLoad, source_with_text}
 
 pub is_unasked : (asked : Bool) → not asked ≡ true → asked ≡ false
 is_unasked true is = sym is
@@ -23,7 +23,8 @@ is_asked false is = sym is
 pub loads_text : {R : Type 0} → (Tells : R → R → RejectedLine → List ℕ → Type 0) → (log log_after : R) → (name : List ℕ) (schema : Schema) (load : Load) (source : LoadSource) (text : List ℕ)
     → IsLoadedText source.options.sort schema (lines_form source) source.text text
     → (old new : ShelfState) (result : Result ShelfEnd ShelfFault)
-    → LoadsTold Tells log log_after name schema load (source_with_text text source) old new result → LoadsTextInto Tells log log_after name schema load source old new result
+    → LoadsInto name (TellsLoadEnd Tells log log_after (λ told. EndsLoad name schema load (record { source = source_with_text text source; told = told }))) old new result
+    → LoadsInto name (TellsLoadEnd Tells log log_after (λ told. EndsTextLoad name schema load source told)) old new result
 loads_text Tells log log_after name schema load source text text_is old new result is = record {
   ends = IfOk-weaker result
       (λ end. TellsLoadEnd Tells log log_after (λ told. EndsLoad name schema load (record { source = source_with_text text source; told = told })) old end new)

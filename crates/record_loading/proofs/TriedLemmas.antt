@@ -171,7 +171,7 @@ module _ (limit : ℕ) (schema : Schema) (form : Form) (text : List ℕ) (option
 
   begun_seen : (result : Result FileBuilt Fault) → counted_of result ≡ None → (before after : DeviceFile) → IfOk result (EndsBuilt schema given before after) → IfErr result (λ fault. SameOrRefused before after) → before.seen ≡ None → IsNotMade after.seen
   begun_seen (Ok (BuiltClosed records)) lacks before after ends left none = absurd (cc)
-  begun_seen (Ok (Unclosed records)) lacks before after ends left none = absurd (cc)
+  begun_seen (Ok (Unclosed records fault)) lacks before after ends left none = absurd (cc)
   begun_seen (Ok OutOfOrder) lacks before after ends left none = inr ends.1.reads
   begun_seen (Ok Clash) lacks before after ends left none = inr ends.1.reads
   begun_seen (Err fault) lacks before after ends left none = left_unmade_by before after left none
@@ -196,7 +196,7 @@ module _ (limit : ℕ) (schema : Schema) (form : Form) (text : List ℕ) (option
         let answered = answers_so records count Successful status some in
         subst (λ (s : Status). LeavesFile schema New shown_list Absent (Opened end s) after.seen) answered
         (ends_closed schema form text options lines text_is given rest mistake read stops short taken count end is after (subst (λ (c : ℕ). IsBuiltWhole schema given c after) n ends))
-    ended_seen (Ok (Unclosed records)) status some before after ends taken =
+    ended_seen (Ok (Unclosed records fault)) status some before after ends taken =
         let n = counts records count PermanentError status some in
         let answered = answers_so records count PermanentError status some in
         subst (λ (s : Status). LeavesFile schema New shown_list Absent (Opened end s) after.seen) answered

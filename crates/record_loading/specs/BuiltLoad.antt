@@ -1,5 +1,5 @@
 -- A load of a new file that is built, and not written by WRITEs. All of this is ours.
-use Rattle.std.specs.Prelude.{◌≡◌, ◌⊎◌, ◌<◌, ◌^◌, ℕ, ◌+◌, List, Option, Some, None, IsTrue, Result, Ok, Err, ⊤, []}
+use Rattle.std.specs.Prelude.{◌≡◌, ◌⊎◌, ◌<◌, ◌^◌, ℕ, ◌+◌, Bool, not, ◌&&◌, nat_lt, List, Option, Some, None, IsTrue, Result, Ok, Err, ⊤, []}
 use Rattle.indexed_file.specs.World.{Absent}
 use Rattle.io_state.specs.declared.fault.Fault.{Fault}
 use Rattle.io_state.specs.declared.status.Status.{Status}
@@ -29,6 +29,11 @@ use Rattle.record_loading.specs.declared.shelf_end.ShelfEnd.{ShelfEnd}
 use Rattle.record_loading.specs.declared.shelf_end.ShelfEnd.TheVariants.{IsThere, Loaded}
 use Rattle.record_loading.specs.declared.shelf_end.ShelfFault.{ShelfFault}
 
+-- a load with these options may be built: it ends at the first line that it cannot take, and memory for the
+-- entries is granted
+abbrev pub may_be_built : LoadOptions → Bool
+may_be_built options = not options.keep_going && not options.replace && nat_lt 0 options.memory
+
 -- lines ended so, of which so many gave a record, and of which the next has this mistake, if one was met
 abbrev pub IsLinesEnd : Form → (skip records : ℕ) → Option LineMistake → LinesEnd → Type 0
 IsLinesEnd form skip records None end = end ≡ LinesLoaded records 0 0
@@ -38,7 +43,7 @@ IsLinesEnd form skip records (Some mistake) end = header_lines form + skip + rec
 -- how many records a file has that was built, and what its closing is answered by
 abbrev pub counted_of : Result FileBuilt Fault → Option (ℕ × Status)
 counted_of (Ok (BuiltClosed records)) = Some (records, Successful)
-counted_of (Ok (Unclosed records)) = Some (records, PermanentError)
+counted_of (Ok (Unclosed records fault)) = Some (records, PermanentError)
 counted_of (Ok OutOfOrder) = None
 counted_of (Ok Clash) = None
 counted_of (Err fault) = None

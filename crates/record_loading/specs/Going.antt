@@ -115,10 +115,10 @@ WritesLinesOf shown list held old area held_after new end =
     WritesListing shown list (in_memory held old area) (in_memory held_after new []) end
 
 -- and a log was told of the lines that were rejected
-abbrev pub WritesLinesTold : {S R : Type 0} → (Tells : R → R → RejectedLine → List ℕ → Type 0)
+abbrev pub WritesTold : {S R : Type 0} → (Tells : R → R → RejectedLine → List ℕ → Type 0)
     → (log log_after : R) → Shown S → LoadSource → (held : Held) → (old : S) → (area : List ℕ)
     → (held_after : Held) → (new : S) → LinesEnd → Type 0
-WritesLinesTold Tells log log_after shown source held old area held_after new end =
+WritesTold Tells log log_after shown source held old area held_after new end =
     TellsRejected Tells log log_after
     (λ told. WritesLinesOf shown (record { source = source; told = told }) held old area held_after new end)
 

@@ -5,6 +5,7 @@ use Rattle.record_layout.specs.Schema.{Schema}
 use Rattle.record_loading.specs.declared.end.Load.{Load}
 use Rattle.record_loading.specs.declared.shelf_end.ShelfEnd.{ShelfEnd}
 use Rattle.record_loading.specs.declared.shelf_end.ShelfFault.{ShelfFault}
+use Rattle.record_loading.specs.Loading.{AskedLoad}
 use Rattle.record_loading.specs.Passing.{LoadSource}
 use Rattle.record_loading.specs.Told.{ToldLine}
 use Rattle.record_loading.specs.Loaded.{LoadsInto}
@@ -18,8 +19,9 @@ EndsKeeping before after name schema load source old end new = (told : List Told
     × KeepsMore before (bytes_of_told told) after
     × EndsTextLoad name schema load source told old end new
 
--- so of a load of a text into the file of a name, or nothing was changed
-abbrev pub LoadsKeeping : (before after : Kept) → (name : List ℕ) → Schema → Load → LoadSource
-    → (old new : ShelfState) → Result ShelfEnd ShelfFault → Type 0
-LoadsKeeping before after name schema load source old new result =
-    LoadsInto name (EndsKeeping before after name schema load source) old new result
+-- so of a load into the file of a name, over a shelf that shows this state and is given back, or nothing was changed
+abbrev pub LoadsKeeping : {H : Type 0} → (before after : Kept) → AskedLoad → (state : H → ShelfState) → (shelf : H)
+    → (H × Result ShelfEnd ShelfFault) → Type 0
+LoadsKeeping before after asked state shelf given = LoadsInto asked.name
+    (EndsKeeping before after asked.name asked.schema asked.load asked.source)
+    (state shelf) (state given.0) given.1

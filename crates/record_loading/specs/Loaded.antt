@@ -13,9 +13,8 @@ use Rattle.verbs.specs.Connector.{FileState, closed_connector}
 use Rattle.shelf_run.specs.Soundness.{files_of, AllSound, AreSoundThroughout}
 use Rattle.shelf_run.specs.Files.{reads_of, Represents}
 use Rattle.shelf_run.specs.ShelfRun.{LeavesFiles, StaysSound}
-use Rattle.record_loading.specs.Loading.{Listing, Loads, mode_of}
+use Rattle.record_loading.specs.Loading.{Listing, Loads, AskedLoad, asked_lines, mode_of}
 use Rattle.record_loading.specs.declared.rejected.RejectedLine.{RejectedLine}
-use Rattle.record_loading.specs.Passing.{LoadSource}
 use Rattle.record_loading.specs.Told.{ToldLine, TellsRejected}
 use Rattle.record_loading.specs.declared.end.Load.{Load}
 use Rattle.record_loading.specs.declared.end.Load.TheVariants.{New, Into}
@@ -131,20 +130,20 @@ pub record LoadsInto (name : List ℕ) (EndsSo : ShelfState → ShelfEnd → She
   pub others : KeepsOtherNames name old new
   pub safe : IsSafeLoad name old new
 
--- a load of a text into the file of a name: it ended as a load does, and a log was told of the lines that were
--- rejected
-abbrev pub LoadsTold : {R : Type 0} → (Tells : R → R → RejectedLine → List ℕ → Type 0) → (log log_after : R)
-    → (name : List ℕ) → Schema → Load → LoadSource → (old new : ShelfState) → Result ShelfEnd ShelfFault → Type 0
-LoadsTold Tells log log_after name schema load source old new result = LoadsInto name
-    (TellsLoadEnd Tells log log_after (λ told. EndsLoad name schema load (record { source = source; told = told })))
-    old new result
+-- a load into the file of a name, over a shelf that shows this state and is given back: it ended as a load does,
+-- and a log was told of the lines that were rejected; or nothing was changed
+abbrev pub LoadsTold : {R H : Type 0} → (Tells : R → R → RejectedLine → List ℕ → Type 0) → (log log_after : R)
+    → AskedLoad → (state : H → ShelfState) → (shelf : H) → (H × Result ShelfEnd ShelfFault) → Type 0
+LoadsTold Tells log log_after asked state shelf given = LoadsInto asked.name
+    (TellsLoadEnd Tells log log_after (λ told. EndsLoad asked.name asked.schema asked.load (asked_lines asked told)))
+    (state shelf) (state given.0) given.1
 
 -- so of one that looked for no file before
-abbrev pub LoadsAnyhow : {R : Type 0} → (Tells : R → R → RejectedLine → List ℕ → Type 0) → (log log_after : R)
-    → (name : List ℕ) → Schema → Load → LoadSource → (old new : ShelfState) → Result ShelfEnd ShelfFault → Type 0
-LoadsAnyhow Tells log log_after name schema load source old new result = LoadsInto name
-    (TellsLoadEnd Tells log log_after (λ told. EndsAnyhow name schema load (record { source = source; told = told })))
-    old new result
+abbrev pub LoadsAnyhow : {R H : Type 0} → (Tells : R → R → RejectedLine → List ℕ → Type 0) → (log log_after : R)
+    → AskedLoad → (state : H → ShelfState) → (shelf : H) → (H × Result ShelfEnd ShelfFault) → Type 0
+LoadsAnyhow Tells log log_after asked state shelf given = LoadsInto asked.name
+    (TellsLoadEnd Tells log log_after (λ told. EndsAnyhow asked.name asked.schema asked.load (asked_lines asked told)))
+    (state shelf) (state given.0) given.1
 
 -- 39
 abbrev pub is_conflict : Status → Bool

@@ -1,6 +1,6 @@
 -- The records of a text, written into a file one after another. All of this is ours.
 use Rattle.std.specs.Prelude.{◌≡◌, ◌⊎◌, ℕ, false, List, [], ◌++◌, length, replicate}
-use Rattle.std.specs.Prelude.{None, IsTrue, bytes_eq}
+use Rattle.std.specs.Prelude.{None, IsTrue, bytes_eq, Result, IfOk}
 use Rattle.io_state.specs.Status.{is_successful}
 use Rattle.io_state.specs.declared.modes.Access.TheVariants.{Dynamic}
 use Rattle.io_state.specs.declared.modes.OpenMode.{OpenMode}
@@ -25,6 +25,7 @@ use Rattle.record_loading.specs.declared.end.LinesEnd.{LinesEnd}
 use Rattle.record_loading.specs.declared.end.LinesEnd.TheVariants.{Loaded, Refused, NoRecord}
 use Rattle.record_loading.specs.declared.end.LoadEnd.{LoadEnd}
 use Rattle.record_loading.specs.declared.end.LoadEnd.TheVariants.{NotOpened, Opened}
+use Rattle.record_loading.specs.declared.end.LoadFault.{LoadFault}
 use Rattle.record_loading.specs.declared.options.LoadOptions.{LoadOptions}
 use Rattle.record_loading.specs.declared.rejected.RejectReason.{RejectReason}
 use Rattle.record_loading.specs.declared.rejected.RejectedLine.{RejectedLine}
@@ -39,12 +40,28 @@ pub record Listing : Type 0 where
   pub told : List ToldLine
 
 -- a text in a form, of which these lines are to be loaded
-abbrev pub text_source : Form → List ℕ → LoadOptions → LoadSource
-text_source form text options = record { form = form; text = text; options = options }
+abbrev pub source_to_load : Form → List ℕ → LoadOptions → LoadSource
+source_to_load form text options = record { form = form; text = text; options = options }
+
+-- what a load is asked to do: to load these lines, into the file of a name and a schema
+pub record AskedLoad : Type 0 where
+  pub name : List ℕ
+  pub schema : Schema
+  pub load : Load
+  pub source : LoadSource
+
+-- so of a text in a form
+abbrev pub asked_load : (name : List ℕ) → Schema → Load → Form → (text : List ℕ) → LoadOptions → AskedLoad
+asked_load name schema load form text options =
+    record { name = name; schema = schema; load = load; source = source_to_load form text options }
+
+-- its lines, of which these were told as rejected
+abbrev pub asked_lines : AskedLoad → (told : List ToldLine) → Listing
+asked_lines asked told = record { source = asked.source; told = told }
 
 -- so of such a text
 abbrev pub listing_by : Form → List ℕ → LoadOptions → (told : List ToldLine) → Listing
-listing_by form text options told = record { source = text_source form text options; told = told }
+listing_by form text options told = record { source = source_to_load form text options; told = told }
 
 -- no line is skipped, the first that is rejected ends a load, no record is replaced, no value filled up,
 -- nothing is held for entries, and nothing sorted
@@ -154,11 +171,12 @@ abbrev pub LoadsText : {S : Type 0} → Shown S → (name : List ℕ) → Schema
 LoadsText shown name schema load list old new end =
     LoadsTruly shown name schema (mode_of load) list old new end
 
--- and a log was told of the lines that were rejected
-abbrev pub LoadsTextTold : {S R : Type 0} → (Tells : R → R → RejectedLine → List ℕ → Type 0) → (log log_after : R)
-    → Shown S → (name : List ℕ) → Schema → Load → LoadSource → (old new : S) → LoadEnd → Type 0
-LoadsTextTold Tells log log_after shown name schema load source old new end = TellsRejected Tells log log_after
-    (λ told. LoadsText shown name schema load (record { source = source; told = told }) old new end)
+-- where it ended, so it did, and a log was told of the lines that were rejected
+abbrev pub LoadsOver : {S R : Type 0} → (Tells : R → R → RejectedLine → List ℕ → Type 0) → (log log_after : R)
+    → Shown S → AskedLoad → (old new : S) → Result LoadEnd LoadFault → Type 0
+LoadsOver Tells log log_after shown asked old new result =
+    IfOk result (λ end. TellsRejected Tells log log_after
+    (λ told. LoadsText shown asked.name asked.schema asked.load (asked_lines asked told) old new end))
 
 -- every other name stands for what it stood for
 abbrev pub OthersStay : (name : List ℕ) → (old new : World) → Type 0

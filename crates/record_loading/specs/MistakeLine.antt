@@ -12,6 +12,8 @@ use Rattle.record_loading.specs.declared.end.LinesEnd.TheVariants.{Loaded, Refus
 use Rattle.record_loading.specs.declared.end.LoadEnd.{LoadEnd}
 use Rattle.record_loading.specs.declared.end.LoadEnd.TheVariants.{NotOpened, Opened}
 use Rattle.record_loading.specs.declared.rejected.RejectReason.{RejectReason}
+use Rattle.record_loading.specs.declared.rejected.RejectedLine.{RejectedLine}
+use Rattle.record_loading.specs.Answer.{line_start, reason_text}
 use Rattle.record_loading.specs.declared.rejected.RejectReason.TheVariants.{Refused as Refuses, NoRecord as IsNoRecord}
 
 -- so many bytes of a record, which are told as characters
@@ -80,6 +82,11 @@ mistake_line line mistake = codes "line " ++ (decimal line ++ (line_mistake_text
 abbrev pub told_mistake : ℕ → RejectReason → List ℕ
 told_mistake line (Refuses status) = []
 told_mistake line (IsNoRecord mistake) = mistake_line line mistake
+
+-- what is told of a line that was rejected, and behind it of its mistake
+abbrev pub rejected_line_text : RejectedLine → List ℕ
+rejected_line_text rejected = codes "cobix: " ++ (line_start rejected.line
+    ++ (reason_text rejected.reason ++ told_mistake rejected.line rejected.reason))
 
 -- and of the line that ended a load
 abbrev pub end_mistake : LoadEnd → List ℕ

@@ -8,6 +8,7 @@ use Rattle.record_loading.specs.declared.shelf_end.ShelfEnd.{ShelfEnd}
 use Rattle.record_loading.specs.declared.shelf_end.ShelfFault.{ShelfFault}
 use Rattle.record_loading.specs.LineForm.{LineForm}
 use Rattle.record_loading.specs.Loaded.{EndsLoad, LoadsInto, TellsLoadEnd}
+use Rattle.record_loading.specs.Loading.{AskedLoad}
 use Rattle.record_loading.specs.Passing.{LoadSource, lines_form}
 use Rattle.record_loading.specs.SortedText.{IsSortedText}
 use Rattle.record_loading.specs.Told.{ToldLine}
@@ -28,9 +29,10 @@ pub record EndsTextLoad (name : List ℕ) (schema : Schema) (load : Load) (sourc
   pub text_is : IsLoadedText source.options.sort schema (lines_form source) source.text text
   pub ends : EndsLoad name schema load (record { source = source_with_text text source; told = told }) old end new
 
--- a load of a text into the file of a name: it ended so, and a log was told of the lines that were rejected; or
--- nothing was changed
-abbrev pub LoadsTextInto : {R : Type 0} → (Tells : R → R → RejectedLine → List ℕ → Type 0) → (log log_after : R)
-    → (name : List ℕ) → Schema → Load → LoadSource → (old new : ShelfState) → Result ShelfEnd ShelfFault → Type 0
-LoadsTextInto Tells log log_after name schema load source old new result = LoadsInto name
-    (TellsLoadEnd Tells log log_after (λ told. EndsTextLoad name schema load source told)) old new result
+-- a load into the file of a name, over a shelf that shows this state and is given back: it ended so, and a log was
+-- told of the lines that were rejected; or nothing was changed
+abbrev pub LoadsTextInto : {R H : Type 0} → (Tells : R → R → RejectedLine → List ℕ → Type 0) → (log log_after : R)
+    → AskedLoad → (state : H → ShelfState) → (shelf : H) → (H × Result ShelfEnd ShelfFault) → Type 0
+LoadsTextInto Tells log log_after asked state shelf given = LoadsInto asked.name (TellsLoadEnd Tells log log_after
+    (λ told. EndsTextLoad asked.name asked.schema asked.load asked.source told))
+    (state shelf) (state given.0) given.1

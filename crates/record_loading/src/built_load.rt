@@ -1,11 +1,11 @@
 //! A load of a new file that is built: its pages are filled one after another, and no WRITE is made.
-ghost use Rattle.std.specs.Prelude.{◌≡◌, ◌<◌, ◌+◌, ◌^◌, ◌++◌, [], IsTrue, false, length};
+ghost use Rattle.std.specs.Prelude.{◌≡◌, ◌<◌, ◌+◌, ◌^◌, ◌++◌, [], false, length};
 ghost use Rattle.page_store.specs.ShelfState.{HasUnit, unit_name};
 ghost use Rattle.record_text.specs.Header.{header_lines};
 ghost use Rattle.record_text.specs.Lines.{form_header};
 ghost use Rattle.record_text.specs.Whole.{IsWholeForm};
 ghost use Rattle.record_loading.specs.BuiltLoad.{TriesToBuild, HasNoNameUnlessEnded, IsLinesEnd};
-ghost use Rattle.record_loading.specs.BuiltLoad.{end_after_try, counted_of, IsDetached};
+ghost use Rattle.record_loading.specs.BuiltLoad.{may_be_built, end_after_try, counted_of, IsDetached};
 ghost use Rattle.record_loading.specs.Loading.{listing_by};
 
 use crate::end::{LinesEnd, LoadEnd};
@@ -37,7 +37,7 @@ pub enum BuildTry {
 /// Whether a load with these options may be built: it ends at the first line that it cannot take, and
 /// memory for the entries is granted.
 pub fn may_be_built(options: LoadOptions) -> bool
-    ensures { IsTrue result → options.keep_going ≡ false }
+    ensures { result ≡ may_be_built options }
 {
     !options.keep_going && !options.replace && options.memory > 0
 }
@@ -77,7 +77,7 @@ fn counted(built: Result<FileBuilt, Fault>) -> Option<(u64, Status)>
 {
     match built {
         Ok(FileBuilt::Closed { records }) => Some((records, Status::Successful)),
-        Ok(FileBuilt::Unclosed { records }) => Some((records, Status::PermanentError)),
+        Ok(FileBuilt::Unclosed { records, .. }) => Some((records, Status::PermanentError)),
         Ok(FileBuilt::OutOfOrder | FileBuilt::Clash) | Err(_) => None,
     }
 }

@@ -1,7 +1,7 @@
 //! A load that keeps the lines that it rejects.
 ghost use Rattle.std.specs.Prelude.{◌≡◌, ◌≤◌, [], OnErr};
 ghost use Rattle.record_text.specs.Whole.{IsWholeForm};
-ghost use Rattle.record_loading.specs.Loading.{text_source};
+ghost use Rattle.record_loading.specs.Loading.{asked_load};
 ghost use Rattle.record_loading.specs.KeptLoad.{LoadsKeeping};
 
 use crate::end::Load;
@@ -39,8 +39,8 @@ pub fn load_keeping<S: Shelf, R: KeepsLines, P: Progress>(
     requires limit { 16 ≤ limit }
     requires whole { IsWholeForm form.now schema.now.greatest }
     ensures unkept { OnErr result.1 (R.kept rejects.new ≡ R.kept rejects.old) }
-    ensures loads { LoadsKeeping (R.kept rejects.old) (R.kept rejects.new) name.bytes schema.now load
-        (text_source form.now text.now options) (S.state shelf) (S.state result.0) result.1 }
+    ensures loads { LoadsKeeping (R.kept rejects.old) (R.kept rejects.new)
+        (asked_load name.bytes schema.now load form.now text.now options) S.state shelf result }
 {
     // This brings that the bytes of each line that is told are kept.
     R::keeps_told();

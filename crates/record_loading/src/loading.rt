@@ -6,7 +6,7 @@ ghost use Rattle.deck_runner.specs.Beginning.{IsUntouched};
 ghost use Rattle.record_text.specs.Lines.{form_header};
 ghost use Rattle.record_text.specs.Whole.{IsWholeForm};
 ghost use Rattle.record_listing.specs.Listing.{HasShutUnit, TrueFor};
-ghost use Rattle.record_loading.specs.Loading.{text_source, LoadsTextTold, OthersStay};
+ghost use Rattle.record_loading.specs.Loading.{source_to_load, asked_load, LoadsOver, OthersStay};
 ghost use Rattle.record_loading.specs.Going.{HasAreaFor, LoadsUnitTold};
 ghost use Rattle.record_loading.specs.Real.{AllStayReal};
 
@@ -57,7 +57,7 @@ fn load_attached<L: Library, P: Progress, R: RejectLog>(
     requires area { HasAreaFor form.now schema.now area.old }
     requires header { header.now ≡ form_header form.now }
     ensures loads { LoadsUnitTold R.tells rejects.old rejects.new L.shown lib.old lib.new schema.now mode
-        (text_source form.now text.now options) area.old result }
+        (source_to_load form.now text.now options) area.old result }
     ensures only { OnlyAt 0 (L.shown.world lib.old) (L.shown.world lib.new) }
     ensures keeps { Keeps L.shown lib.old lib.new }
 {
@@ -108,8 +108,8 @@ pub fn load_records<L: Library, P: Progress, R: RejectLog>(
     progress: &mut P,
 ) -> Result<LoadEnd, LoadFault>
     requires whole { IsWholeForm form.now schema.now.greatest }
-    ensures loads { IfOk result (LoadsTextTold R.tells rejects.old rejects.new L.shown name.bytes schema.now
-        load (text_source form.now text.now options) lib.old lib.new) }
+    ensures loads { LoadsOver R.tells rejects.old rejects.new L.shown
+        (asked_load name.bytes schema.now load form.now text.now options) lib.old lib.new result }
     ensures real { TrueFor L.shown name.bytes lib.old lib.new (AllStayReal L.shown lib.old lib.new) }
     ensures others { OthersStay name.bytes (L.shown.world lib.old) (L.shown.world lib.new) }
     ensures memory { OnErr result (IsUntouched L.shown lib.old lib.new) }

@@ -1,7 +1,6 @@
 //! The line that tells what is wrong with a line that is no record's.
-ghost use Rattle.std.specs.Prelude.{◌≡◌, ◌≤◌, [], ◌∷◌, decimal, OnOk};
+ghost use Rattle.std.specs.Prelude.{◌≡◌, [], ◌∷◌, decimal, OnOk};
 ghost use Rattle.std.specs.Io.KnownBytes.{Appends};
-ghost use Rattle.deck_runner.specs.Line.{hex_digit};
 ghost use Rattle.record_loading.specs.MistakeLine.{characters_text, hex_text, stray_byte_text, lacking_text};
 ghost use Rattle.record_loading.specs.MistakeLine.{stray_text, wanted_lengths_text};
 ghost use Rattle.record_loading.specs.MistakeLine.{value_mistake_text, column_mistake_text, ending_text};
@@ -9,6 +8,7 @@ ghost use Rattle.record_loading.specs.MistakeLine.{line_mistake_text, mistake_li
 
 use crate::end::{LinesEnd, LoadEnd};
 use crate::rejected::RejectReason;
+use deck_runner::hex_digit;
 use itoa::Buffer;
 use record_text::{ColumnMistake, LineMistake, Stray, ValueMistake};
 use std::io::{self, Write};
@@ -32,19 +32,11 @@ fn write_characters<W: Write>(out: &mut W, count: usize) -> io::Result<()>
     out.write_all(b" characters")
 }
 
-/// A hexadecimal digit, in lower case.
-fn digit(n: u8) -> u8
-    requires { n ≤ 15 }
-    ensures { result ≡ hex_digit n }
-{
-    if n < 10 { b'0' + n } else { 87 + n }
-}
-
 /// Writes a byte as two hexadecimal digits.
 fn write_hex<W: Write>(out: &mut W, byte: u8) -> io::Result<()>
     ensures { OnOk result (Appends (W.contents out.old) (W.contents out.new) (hex_text byte)) }
 {
-    let digits = [digit(byte / 16), digit(byte % 16)];
+    let digits = [hex_digit(byte / 16), hex_digit(byte % 16)];
     out.write_all(&digits)
 }
 

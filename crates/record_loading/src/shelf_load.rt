@@ -1,7 +1,7 @@
 //! The loading.
 ghost use Rattle.std.specs.Prelude.{◌≡◌, ◌≤◌, [], IsTrue, None, IfOk, OnOk, OnErr, ⊤};
 ghost use Rattle.record_text.specs.Whole.{IsWholeForm};
-ghost use Rattle.record_loading.specs.Loading.{listing, text_source};
+ghost use Rattle.record_loading.specs.Loading.{listing, source_to_load, asked_load};
 ghost use Rattle.shelf_run.specs.Files.{reads_of};
 ghost use Rattle.record_loading.specs.SortedLoad.{LoadsTextInto};
 ghost use Rattle.record_loading.specs.Loaded.{EndsLoad, LoadsInto, LoadsTold, LoadsAnyhow, TellsIfThere};
@@ -55,8 +55,8 @@ fn load_over<S: Shelf, P: Progress, R: RejectLog>(
     requires limit { 16 ≤ limit }
     requires whole { IsWholeForm form.now schema.now.greatest }
     ensures untold { OnErr result.1 (rejects.new ≡ rejects.old) }
-    ensures loads { LoadsAnyhow R.tells rejects.old rejects.new name.bytes schema.now load
-        (text_source form.now text.now options) (S.state shelf) (S.state result.0) result.1 }
+    ensures loads { LoadsAnyhow R.tells rejects.old rejects.new
+        (asked_load name.bytes schema.now load form.now text.now options) S.state shelf result }
 {
     let mut library = ShelfLibrary::new(alloc, shelf, limit, frames);
     let end = load_records(
@@ -92,7 +92,7 @@ fn load_again<S: Shelf, P: Progress, R: RejectLog>(
     requires limit { 16 ≤ limit }
     requires whole { IsWholeForm form.now schema.now.greatest }
     ensures { LoadsAgain R.tells rejects.old rejects.new name.bytes schema.now
-        (text_source form.now text.now options) (S.state shelf) (S.state result.0) result.1 }
+        (source_to_load form.now text.now options) (S.state shelf) (S.state result.0) result.1 }
 {
     let (shelf, end) = load_over(
         alloc,
@@ -131,8 +131,8 @@ fn load_absent<S: Shelf, P: Progress, R: RejectLog>(
     requires whole { IsWholeForm form.now schema.now.greatest }
     requires absent { IsTrue (S.state shelf).is_honest → reads_of (S.state shelf) name.bytes ≡ None }
     ensures untold { OnErr result.1 (rejects.new ≡ rejects.old) }
-    ensures loads { LoadsTold R.tells rejects.old rejects.new name.bytes schema.now Load.New
-        (text_source form.now text.now options) (S.state shelf) (S.state result.0) result.1 }
+    ensures loads { LoadsTold R.tells rejects.old rejects.new
+        (asked_load name.bytes schema.now Load.New form.now text.now options) S.state shelf result }
 {
     let mut shelf = shelf;
     match build_load(
@@ -179,8 +179,8 @@ fn load_new<S: Shelf, P: Progress, R: RejectLog>(
     requires limit { 16 ≤ limit }
     requires whole { IsWholeForm form.now schema.now.greatest }
     ensures untold { OnErr result.1 (rejects.new ≡ rejects.old) }
-    ensures loads { LoadsTold R.tells rejects.old rejects.new name.bytes schema.now Load.New
-        (text_source form.now text.now options) (S.state shelf) (S.state result.0) result.1 }
+    ensures loads { LoadsTold R.tells rejects.old rejects.new
+        (asked_load name.bytes schema.now Load.New form.now text.now options) S.state shelf result }
 {
     let mut shelf = shelf;
     match is_there(&mut shelf, name) {
@@ -211,8 +211,8 @@ fn load_lines<S: Shelf, P: Progress, R: RejectLog>(
     requires limit { 16 ≤ limit }
     requires whole { IsWholeForm form.now schema.now.greatest }
     ensures untold { OnErr result.1 (rejects.new ≡ rejects.old) }
-    ensures loads { LoadsTold R.tells rejects.old rejects.new name.bytes schema.now load
-        (text_source form.now text.now options) (S.state shelf) (S.state result.0) result.1 }
+    ensures loads { LoadsTold R.tells rejects.old rejects.new
+        (asked_load name.bytes schema.now load form.now text.now options) S.state shelf result }
 {
     match load {
         Load::New => load_new(
@@ -269,8 +269,8 @@ pub fn load_lines_on_shelf<S: Shelf, P: Progress, R: RejectLog>(
     requires limit { 16 ≤ limit }
     requires whole { IsWholeForm form.now schema.now.greatest }
     ensures untold { OnErr result.1 (rejects.new ≡ rejects.old) }
-    ensures loads { LoadsTextInto R.tells rejects.old rejects.new name.bytes schema.now load
-        (text_source form.now text.now options) (S.state shelf) (S.state result.0) result.1 }
+    ensures loads { LoadsTextInto R.tells rejects.old rejects.new
+        (asked_load name.bytes schema.now load form.now text.now options) S.state shelf result }
 {
     if !options.sort {
         return load_lines(

@@ -2,7 +2,7 @@
 ghost use Rattle.std.specs.Prelude.{◌++◌, codes, OnOk};
 ghost use Rattle.std.specs.Io.KnownBytes.{Appends};
 ghost use Rattle.record_loading.specs.Answer.{status_text, line_start, reason_text};
-ghost use Rattle.record_loading.specs.MistakeLine.{told_mistake};
+ghost use Rattle.record_loading.specs.MistakeLine.{rejected_line_text};
 
 use crate::mistake_line::write_mistake;
 use crate::rejected::{RejectReason, RejectedLine};
@@ -52,8 +52,7 @@ fn write_start<W: Write>(out: &mut W, line: u64) -> io::Result<()>
 /// no record's.
 pub fn write_rejected<W: Write>(out: &mut W, rejected: &RejectedLine) -> io::Result<()>
     ensures { OnOk result (Appends (W.contents out.old) (W.contents out.new)
-        (codes "cobix: " ++ (line_start rejected.now.line ++ (reason_text rejected.now.reason
-        ++ told_mistake rejected.now.line rejected.now.reason)))) }
+        (rejected_line_text rejected.now)) }
 {
     write_start(out, rejected.line)?;
     write_reason(out, rejected.reason)?;
