@@ -10,6 +10,8 @@ use Rattle.clap.specs.Words.{Text}
 use Rattle.file_checker.specs.Sound.{asked_in}
 use Rattle.system_files.specs.Front.{IsFrontRead, IsTextRead, EndsInLongLine}
 use Rattle.folder_shelf.specs.Calls.{Call, taken, taken_shared}
+use Rattle.folder_shelf.specs.Reading.{ByReads}
+use Rattle.folder_shelf.specs.SystemState.{SystemState}
 use Rattle.command_support.specs.Status.{status_of}
 use Rattle.command_support.specs.declared.fault.CommandFault.{CommandFault}
 use Rattle.command_support.specs.declared.fault.CommandFault.TheVariants.{Output}
@@ -84,6 +86,10 @@ OfNamedDeck calls input word IsSo = (bytes : List ℕ) × IsDeckNamed calls inpu
 -- a word that may be given
 abbrev pub word_in : Option (Bor (List ℕ)) → Option (List ℕ)
 word_in word = option_map (λ text. text.now) word
+
+-- a system was asked by calls that only read, and by no others, and this is so of them
+abbrev pub ReadsOnly : {S : Type 0} → (state : S → SystemState) → (old new : S) → (IsSo : List Call → Type 0) → Type 0
+ReadsOnly state old new IsSo = ByReads IsSo (state old) (state new)
 
 -- a value of which this is so; or the input, the output or memory failed
 abbrev pub GivesSuch : {X : Type 0} → (IsSo : X → Type 0) → Result X CommandFault → Type 0
