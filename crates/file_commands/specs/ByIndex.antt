@@ -28,6 +28,7 @@ use Rattle.command_support.specs.Front.{OfFirstPage, counted_calls, word_in}
 use Rattle.command_support.specs.AskedForm.{ListWords, IsAskedFormBy, IsListRefused}
 use Rattle.command_support.specs.declared.asked_form.AskedForm.{AskedForm}
 use Rattle.file_commands.specs.Records.{IsAskedFor, IsAskedBy, AgreesWith, WritesOther, words_of}
+use Rattle.file_commands.specs.declared.asked_list.Listing.{Listing}
 use Rattle.file_commands.specs.declared.by_index.ListStart.{ListStart}
 use Rattle.file_commands.specs.declared.listing.Bounds.{Bounds}
 
@@ -151,3 +152,9 @@ pub record ListsByIndex
       (DoesByIndex disk input path bounds (words_of bounds form) (contents old) (contents new) calls)
   pub untouched : IfErr result (λ fault. status_of fault ≢ 4 → new ≡ old)
   pub fault : IfErr result (IsListRefused (words_of bounds form))
+
+-- so for what is asked of a list
+abbrev pub ListsAskedByIndex : {W : Type 0} → Unseen → (input : Option (List ℕ)) → Listing
+    → (W → Option (List ℕ)) → (old new : W) → Result Outcome CommandFault → List Call → Type 0
+ListsAskedByIndex disk input asked contents old new result calls =
+    ListsByIndex disk input asked.file.now asked.bounds asked.form contents old new result calls

@@ -8,14 +8,15 @@ use Rattle.file_control.specs.Description.{FileDesc}
 use Rattle.record_text.specs.declared.form.Form.{Form}
 use Rattle.record_text.specs.declared.form.Form.TheVariants.{Text}
 use Rattle.salvaged_records.specs.Salvaged.{EndsWith, Outputs, outputs, with_gate_closed}
-use Rattle.command_words.specs.Asks.{FormText}
+use Rattle.command_words.specs.Asks.{FormText, form_text}
 use Rattle.command_support.specs.Forms.{IsFormBy, IsFormRefused}
 use Rattle.command_support.specs.declared.forms.ListForm.{ListForm}
 use Rattle.folder_shelf.specs.Calls.{Call, taken_shared}
 use Rattle.command_support.specs.DeckFile.{IsOfDeck}
-use Rattle.command_support.specs.Front.{IsDeckNamed, word_in}
+use Rattle.command_support.specs.Front.{IsDeckNamed, GivesSuch, word_in}
 use Rattle.file_commands.specs.Records.{AgreesWith, WritesOther}
 use Rattle.file_commands.specs.Schema.{IsSchemaFault}
+use Rattle.file_commands.specs.declared.salvaging.Salvaging.{Salvaging}
 use Rattle.command_support.specs.Status.{status_of}
 use Rattle.command_support.specs.declared.fault.CommandFault.{CommandFault}
 use Rattle.command_support.specs.declared.outcome.Outcome.{Outcome}
@@ -73,6 +74,11 @@ SalvagesBytes asked places bytes o OtherSchema =
     WritesOther asked.schema bytes o.before o.behind × (o.told_behind ≡ o.told_before)
 SalvagesBytes asked places bytes o outcome = ⊥
 
+-- where the gate of the bytes is closed, so it was done; or the input, an output or memory failed
+abbrev pub SalvagesClosed : ListForm → (places : Bool) → List ℕ → Outputs → Result Outcome CommandFault → Type 0
+SalvagesClosed asked places bytes outputs result =
+    with_gate_closed bytes ≡ bytes → GivesSuch (SalvagesBytes asked places bytes outputs) result
+
 -- so of the file of a path, in the form that is asked for
 abbrev pub SalvagesFileAt : (input : Option (List ℕ)) → (path : List ℕ) → FormText → (places : Bool)
     → Outputs → List Call → Outcome → Type 0
@@ -91,3 +97,9 @@ pub record SalvagesFile
       (outputs (contents old) (contents new) (contents_told told) (contents_told told_after)) calls)
   pub untouched : IfErr result (λ fault. status_of fault ≢ 4 → new ≡ old)
   pub fault : IfErr result (IsSalvageRefused asked)
+
+-- so for what is asked of a salvage
+abbrev pub SalvagesAt : {E W : Type 0} → (input : Option (List ℕ)) → Salvaging → (E → Option (List ℕ))
+    → (told told_after : E) → (W → Option (List ℕ)) → (old new : W) → Result Outcome CommandFault → List Call → Type 0
+SalvagesAt input asked contents_told told told_after contents old new result calls = SalvagesFile input
+    asked.file.now (form_text asked.form) asked.places contents_told told told_after contents old new result calls

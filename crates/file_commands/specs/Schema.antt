@@ -1,5 +1,5 @@
 -- What is told of a file by its first page, as what was done. All of this is ours.
-use Rattle.std.specs.Prelude.{◌≡◌, ◌≢◌, ℕ, List, Option, None, Result, Ok, Err, IfOk, IfErr, ⊤}
+use Rattle.std.specs.Prelude.{◌≡◌, ◌≢◌, ℕ, List, [], Option, None, Result, Ok, Err, IfOk, IfErr, ⊤}
 use denote.Ref.{Bor}
 use Rattle.clap.specs.Words.{Text}
 use Rattle.record_layout.specs.Schema.{Schema}
@@ -111,6 +111,13 @@ ComparesAsked input path deck name contents old new calls outcome =
 pub record ComesOfFile (IsKind IsSo : Outcome → Type 0) (result : Result Outcome CommandFault) : Type 0 where
   pub told : IfOk result IsSo
   pub kind : GivesSuch IsKind result
+
+-- the schema of the file of a path was held against that of a deck, by these calls alone; or the input, the
+-- output or memory failed
+abbrev pub ComparesFileAlone : {W : Type 0} → (path : List ℕ) → Schema → (W → Option (List ℕ)) → (old new : W)
+    → Result Outcome CommandFault → List Call → Type 0
+ComparesFileAlone path deck contents old new result calls =
+    ComesOfFile IsOfComparison (ComparesFile path deck contents old new [] calls) result
 
 -- the schema of a file was held against that of the file of a name in the deck of a path; or nothing
 -- came of them. Unless the input, the output or memory failed, nothing is written then

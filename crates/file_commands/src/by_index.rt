@@ -2,9 +2,11 @@
 ghost use Rattle.std.specs.Prelude.{◌≡◌, []};
 ghost use Rattle.command_support.specs.Status.{status_of};
 ghost use Rattle.folder_shelf.specs.Reading.{ByReads};
-ghost use Rattle.record_listing.specs.ByPath.{ByReadsAside};
-ghost use Rattle.file_commands.specs.ByIndex.{TellsReason, ToldOfPages, ReadsStart, ListsPages, ListsByIndex};
+ghost use Rattle.record_listing.specs.ByPath.{ReadsAside};
+ghost use Rattle.file_commands.specs.ByIndex.{TellsReason, ToldOfPages, ReadsStart, ListsPages};
+ghost use Rattle.file_commands.specs.ByIndex.{ListsAskedByIndex};
 
+use crate::asked_list::Listing;
 use crate::listing::{Bounds, asked_by, is_other, values_of};
 use command_support::{
     AskedForm, CommandFault, ListForm, Outcome, fault_of as not_read, form_and_conditions,
@@ -128,9 +130,8 @@ fn list_pages<S: System + Drop, D: Disk, P: Progress, W: Write>(
     out: &mut W,
 ) -> (S, Result<Outcome, CommandFault>)
     requires none_aside { aside.old.calls ≡ [] }
-    ensures { ByReadsAside (ListsPages D.Disk.unseen path.now form.now asked (W.contents out.old)
-        (W.contents out.new) result.1)
-        (S.state system).calls aside.new.calls (S.state result.0).calls }
+    ensures { ReadsAside S.state system aside.new.calls result
+        (ListsPages D.Disk.unseen path.now form.now asked (W.contents out.old) (W.contents out.new)) }
 {
     let (system, end) = list_at_path::<S, D, W>(system, aside, alloc, path, asked, form, out);
     let mut system = system;
@@ -138,28 +139,33 @@ fn list_pages<S: System + Drop, D: Disk, P: Progress, W: Write>(
     (system, done)
 }
 
-/// Writes the lines of the records of the file of a path that are asked for, in the form that is
-/// asked for, as the file is read page after page; no run changes it meanwhile. It is as
-/// `list_checked`, but that a file is checked only where a page is met that is not what its place
-/// requires: the lines before it stay written then.
+/// Writes the lines of the records that are asked for, in the form that is asked for, as the file is
+/// read page after page; no run changes it meanwhile. It is as `list_checked`, but that a file is
+/// checked only where a page is met that is not what its place requires: the lines before it stay
+/// written then.
 pub fn list_records<S: System + Drop, D: Disk, I: Read, P: Progress, W: Write>(
     system: S,
     aside: &mut CallRecord,
     alloc: Global,
-    path: &str,
-    bounds: Bounds<'_>,
-    form: FormWords<'_>,
+    listing: Listing<'_>,
     input: &mut I,
     progress: &mut P,
     out: &mut W,
 ) -> (S, Result<Outcome, CommandFault>)
     requires none_aside { aside.old.calls ≡ [] }
-    ensures { ByReadsAside (ListsByIndex D.Disk.unseen (I.remaining input.old) path.now bounds.entry
-        form.entry W.contents out.old out.new result.1)
-        (S.state system).calls aside.new.calls (S.state result.0).calls }
+    ensures { ReadsAside S.state system aside.new.calls result (ListsAskedByIndex D.Disk.unseen
+        (I.remaining input.old) listing.entry W.contents out.old out.new) }
 {
     let mut system = system;
-    let start = match read_start(&mut system, alloc, path, bounds, form, input) {
+    let path = listing.file;
+    let start = match read_start(
+        &mut system,
+        alloc,
+        path,
+        listing.bounds,
+        listing.form,
+        input,
+    ) {
         Ok(start) => start,
         Err(fault) => return (system, Err(fault)),
     };

@@ -1,9 +1,9 @@
 //! The schema of a file, held against that of a file of a deck.
-ghost use Rattle.std.specs.Prelude.{[]};
 ghost use Rattle.file_reports.specs.SchemaListing.{read_of_file};
 ghost use Rattle.folder_shelf.specs.Reading.{ByReads};
-ghost use Rattle.file_commands.specs.Schema.{ComparesAs, ComparesFile, IsOfComparison, ComesOfFile};
+ghost use Rattle.file_commands.specs.Schema.{ComparesAs, ComparesFileAlone, IsOfComparison, ComesOfFile};
 ghost use Rattle.file_commands.specs.Schema.{ComparesPaths};
+ghost use Rattle.command_support.specs.Front.{ReadsOnly};
 
 use crate::first_page::fault_of;
 use command_support::{CommandFault, Outcome, deck_at, file_in, read_first_page};
@@ -39,8 +39,7 @@ fn compare_file<S: System, W: Write>(
     deck: &Schema,
     out: &mut W,
 ) -> Result<Outcome, CommandFault>
-    ensures { ByReads (λ calls. ComesOfFile IsOfComparison
-        (ComparesFile path.now deck.now W.contents out.old out.new [] calls) result)
+    ensures { ByReads (ComparesFileAlone path.now deck.now W.contents out.old out.new result)
         (S.state system.old) (S.state system.new) }
 {
     let bytes = match read_first_page(system, path) {
@@ -62,8 +61,8 @@ pub fn compare_path<S: System, I: Read, W: Write>(
     input: &mut I,
     out: &mut W,
 ) -> Result<Outcome, CommandFault>
-    ensures { ByReads (ComparesPaths (I.remaining input.old) path.now deck.now name.now
-        W.contents out.old out.new result) (S.state system.old) (S.state system.new) }
+    ensures { ReadsOnly S.state system.old system.new (ComparesPaths (I.remaining input.old)
+        path.now deck.now name.now W.contents out.old out.new result) }
 {
     let deck = match deck_at(system, alloc, deck, input) {
         Ok(deck) => deck,

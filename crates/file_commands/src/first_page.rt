@@ -4,6 +4,7 @@ ghost use Rattle.file_reports.specs.SchemaListing.{read_of_file};
 ghost use Rattle.folder_shelf.specs.Reading.{ByReads};
 ghost use Rattle.file_commands.specs.Schema.{TellsAs, TellsFile, IsOfSchema, ComesOfFile, AnswersSchema};
 ghost use Rattle.file_commands.specs.Schema.{listing_told_as};
+ghost use Rattle.command_support.specs.Front.{ReadsOnly};
 ghost use Rattle.command_support.specs.Status.{status_of};
 
 use crate::comparing::compare_path;
@@ -67,8 +68,8 @@ pub fn schema<S: System, I: Read, W: Write>(
     input: &mut I,
     out: &mut W,
 ) -> Result<Outcome, CommandFault>
-    ensures { ByReads (AnswersSchema (I.remaining input.old) path.now deck.entry name.entry
-        W.contents out.old out.new result) (S.state system.old) (S.state system.new) }
+    ensures { ReadsOnly S.state system.old system.new (AnswersSchema (I.remaining input.old)
+        path.now deck.entry name.entry W.contents out.old out.new result) }
 {
     match (deck, name) {
         (None, None) => schema_path(system, alloc, path, out),

@@ -10,6 +10,7 @@
 //! What they read before they act is in `command_support`. Read `verdict` first, then `listing`.
 #![tactic(auto)]
 
+mod asked_list;
 mod by_index;
 mod cobol;
 mod comparing;
@@ -24,6 +25,7 @@ mod text;
 mod verdict;
 mod verdict_lines;
 
+pub use asked_list::Listing;
 pub use by_index::list_records;
 pub use cobol::write_cobol;
 pub use counting::count_path;
@@ -31,5 +33,5 @@ pub use deck_list::list_path;
 pub use differing::{differences_at, path_in};
 pub use first_page::schema;
 pub use listing::{Bounds, list_checked};
-pub use salvaging::salvage_path;
+pub use salvaging::{Salvaging, salvage_path};
 pub use verdict::{check_path, check_paths};

@@ -1,12 +1,12 @@
 //! The records that are left in the file of a path.
 ghost use Rattle.std.specs.Prelude.{◌≡◌};
 ghost use Rattle.folder_shelf.specs.Reading.{ByReads};
-ghost use Rattle.salvaged_records.specs.Salvaged.{outputs, with_gate_closed};
+ghost use Rattle.salvaged_records.specs.Salvaged.{both_outputs, with_gate_closed};
 ghost use Rattle.command_words.specs.Asks.{form_text};
 ghost use Rattle.command_support.specs.DeckFile.{ComesOfDeck};
-ghost use Rattle.command_support.specs.Front.{GivesSuch};
+ghost use Rattle.command_support.specs.Front.{ReadsOnly};
 ghost use Rattle.file_commands.specs.Salvaged.{IsSchemaIn, GivesSchemaAsked, GivesSalvageForm};
-ghost use Rattle.file_commands.specs.Salvaged.{SalvagesBytes, SalvagesFile};
+ghost use Rattle.file_commands.specs.Salvaged.{SalvagesClosed, SalvagesAt};
 ghost use Rattle.command_support.specs.Status.{status_of};
 
 use crate::listing::is_other;
@@ -22,6 +22,15 @@ use salvaged_records::{SalvageForm, close_gate, salvage_records};
 use std::alloc::Global;
 use std::io::{Read, Write};
 use streams::Silent;
+
+/// What is asked of a salvage: the path of a file, the words for the form, and whether the places of the
+/// records are wanted.
+#[derive(Clone, Copy)]
+pub struct Salvaging<'a> {
+    pub file: &'a str,
+    pub form: FormWords<'a>,
+    pub places: bool,
+}
 
 /// The most bytes of a file: those of as many pages as can be numbered.
 const MOST_BYTES: usize = 17_592_186_044_416;
@@ -122,9 +131,8 @@ fn salvage_bytes<W: Write, E: Write>(
     told: &mut E,
     out: &mut W,
 ) -> Result<Outcome, CommandFault>
-    ensures { with_gate_closed bytes.items ≡ bytes.items
-        → GivesSuch (SalvagesBytes asked.now places bytes.items
-        (outputs (W.contents out.old) (W.contents out.new) (E.contents told.old) (E.contents told.new))) result }
+    ensures { SalvagesClosed asked.now places bytes.items
+        (both_outputs W.contents E.contents (out.old, told.old) (out.new, told.new)) result }
 {
     let form = SalvageForm {
         form: &asked.form,
@@ -148,23 +156,20 @@ fn salvage_bytes<W: Write, E: Write>(
 pub fn salvage_path<S: System, I: Read, W: Write, E: Write>(
     system: &mut S,
     alloc: Global,
-    path: &str,
-    form: FormWords<'_>,
-    places: bool,
+    asked: Salvaging<'_>,
     input: &mut I,
     told: &mut E,
     out: &mut W,
 ) -> Result<Outcome, CommandFault>
-    ensures { ByReads (SalvagesFile (I.remaining input.old) path.now (form_text form.entry) places
-        E.contents told.old told.new W.contents out.old out.new result)
-        (S.state system.old) (S.state system.new) }
+    ensures { ReadsOnly S.state system.old system.new (SalvagesAt (I.remaining input.old) asked.entry
+        E.contents told.old told.new W.contents out.old out.new result) }
 {
-    let asked = match salvage_form(system, alloc, form, input) {
-        Ok(asked) => asked,
+    let form = match salvage_form(system, alloc, asked.form, input) {
+        Ok(form) => form,
         Err(fault) => return Err(fault),
     };
-    match system.take_shared(path, MOST_BYTES, &mut Silent) {
-        Ok(bytes) => salvage_bytes(alloc, closed(bytes), &asked, places, told, out),
+    match system.take_shared(asked.file, MOST_BYTES, &mut Silent) {
+        Ok(bytes) => salvage_bytes(alloc, closed(bytes), &form, asked.places, told, out),
         Err(fault) => Err(not_read(fault)),
     }
 }

@@ -1,17 +1,10 @@
 //! A path as it is shown: with the escapes of the transcript, so that no byte of it ends a line.
-ghost use Rattle.std.specs.Prelude.{◌≡◌, ◌≤◌, ◌++◌, OnOk};
-ghost use Rattle.deck_runner.specs.Line.{hex_digit, shown_byte};
+ghost use Rattle.std.specs.Prelude.{◌≡◌, ◌++◌, OnOk};
+ghost use Rattle.deck_runner.specs.Line.{shown_byte};
 ghost use Rattle.record_text.specs.Columns.{text_of};
 
+use deck_runner::hex_digit;
 use std::alloc::AllocError;
-
-/// A hexadecimal digit, in lower case.
-fn digit(n: u8) -> u8
-    requires { n ≤ 15 }
-    ensures { result ≡ hex_digit n }
-{
-    if n < 10 { b'0' + n } else { 87 + n }
-}
 
 /// Adds a byte as it is shown.
 fn add_byte(text: &mut Vec<u8>, byte: u8) -> Result<(), AllocError>
@@ -20,7 +13,7 @@ fn add_byte(text: &mut Vec<u8>, byte: u8) -> Result<(), AllocError>
     if byte > 31 && byte < 127 && byte != b'\\' {
         return text.extend_from_slice(&[byte]);
     }
-    text.extend_from_slice(&[b'\\', digit(byte / 16), digit(byte % 16)])
+    text.extend_from_slice(&[b'\\', hex_digit(byte / 16), hex_digit(byte % 16)])
 }
 
 /// Adds bytes as they are shown.
