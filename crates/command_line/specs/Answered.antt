@@ -3,14 +3,18 @@ use Rattle.std.specs.Prelude.{◌≡◌, ◌⊎◌, ℕ, nat_lt, Bool, true, fal
 use Rattle.std.specs.Prelude.{Option, Some, None, Result, Ok}
 use Rattle.clap.specs.Words.{Text}
 use Rattle.page_store.specs.declared.shelf.Shelf.{Ghosts}
+use Rattle.folder_shelf.specs.Calls.{Call}
 use Rattle.folder_shelf.specs.Replay.{Unseen}
 use Rattle.streams.specs.declared.standard_input.StandardInput.{StandardInput}
 use Rattle.streams.specs.LineEnds.{has_failed_line}
 use Rattle.streams.specs.Writes.{taken_by}
 use Rattle.streams.specs.declared.standard_output.StandardOutput.{StandardOutput}
 use Rattle.command_line.specs.AskedSession.{ServedAsAsked}
-use Rattle.command_line.specs.CallsMade.{CallsMade, streams_first}
+use Rattle.command_words.specs.Asks.{Ask}
+use Rattle.command_words.specs.declared.request.Request.{Request}
+use Rattle.command_line.specs.CallsMade.{CallsMade, calls_beside, calls_made, streams_first}
 use Rattle.command_line.specs.Copied.{AskForCopy, BeginsCopy}
+use Rattle.command_line.specs.Devices.{Devices}
 use Rattle.command_line.specs.Loaded.{BeginsLoadOfDeck, options_of}
 use Rattle.command_line.specs.Performed.{wrote, Did, RanAsAsked, AskForLoad}
 use Rattle.command_line.specs.Right.{ReadsAlone}
@@ -96,3 +100,30 @@ pub record AnswersWords
       ≡ status_heeding (is_strict done.ran) done.unclosed (taken_by out_after.calls.writes) done.outcome
   pub did : Did words done.outcome
   pub came : CameFor shelf keeps_open disk words made left taken input input_after out out_after done
+
+-- the program came to this over devices, for words that ask for a request that is no copy
+abbrev pub CameAloneOver : {S X I W : Type 0} → Devices S X I W → Request → (aside : List Call) → S × Done
+    → (input input_after : StandardInput I) → (out out_after : W) → Type 0
+CameAloneOver over request aside result input input_after out out_after = (words : List Text) → Ask words request
+    → CameAlone over.shelf over.keeps_open over.disk words (calls_made aside (over.state result.0)) over.left
+    over.contents input input_after out out_after result.1
+
+-- so for words, with what the other system was asked
+abbrev pub CameForOver : {S X I W : Type 0} → Devices S X I W → (words : List Text) → (aside : List Call)
+    → S × S × Done → (input input_after : StandardInput I) → (out out_after : W) → Type 0
+CameForOver over words aside result input input_after out out_after = CameFor over.shelf over.keeps_open over.disk
+    words (calls_beside aside (over.state result.0) (over.state result.1).calls) over.left over.contents
+    input input_after out out_after result.2
+
+-- so for words that ask for a request
+abbrev pub CameForRequestOver : {S X I W : Type 0} → Devices S X I W → Request → (aside : List Call) → S × S × Done
+    → (input input_after : StandardInput I) → (out out_after : W) → Type 0
+CameForRequestOver over request aside result input input_after out out_after =
+    (words : List Text) → Ask words request → CameForOver over words aside result input input_after out out_after
+
+-- the exit status and the outcome for words, by the calls of both systems
+abbrev pub AnswersWordsOver : {S X I V W : Type 0} → Devices S X I V → (words : List Text) → (aside : List Call)
+    → ℕ × S × S → (input input_after : StandardInput I) → (out out_after : StandardOutput W) → Type 0
+AnswersWordsOver over words aside result input input_after out out_after = AnswersWords over.shelf over.keeps_open
+    over.disk words (calls_beside aside (over.state result.1) (over.state result.2).calls) over.left
+    input input_after out out_after result.0

@@ -12,9 +12,11 @@ use Rattle.streams.specs.declared.standard_input.StandardInput.{StandardInput}
 use Rattle.command_words.specs.Asks.{AskServe}
 use Rattle.command_words.specs.declared.limits.Limits.{Limits}
 use Rattle.serve.specs.Serving.{Exchange, Streams}
-use Rattle.command_line.specs.CallsMade.{CallsMade, BeginsNothing, folder_behind, streams_first}
+use Rattle.command_line.specs.CallsMade.{CallsMade, BeginsNothing, calls_made, folder_behind, streams_first}
+use Rattle.command_line.specs.Devices.{Devices}
 use Rattle.command_line.specs.Session.{shown_over, keeps_over, IsNewOver, IsLeftIn, IsExactOver, streams_of}
 use Rattle.command_line.specs.Session.{ServedOver}
+use Rattle.command_line.specs.declared.done.Done.{Done}
 use Rattle.command_line.specs.declared.session.ServedEnd.{ServedEnd}
 use Rattle.command_support.specs.declared.fault.CommandFault.{CommandFault}
 use Rattle.command_support.specs.declared.fault.CommandFault.TheVariants.{Memory}
@@ -77,3 +79,11 @@ pub record ServedAsAsked {X : Type 0} (shelf : Ghosts X) (keeps_open : X → ℕ
   pub frames : ℕ
   pub asks : AskServe words folder pages frames
   pub session : BeginsSession streams_first shelf keeps_open disk made folder pages frames s unclosed outcome
+
+-- so over devices
+abbrev pub ComesOfSessionOver : {S X I W : Type 0} → Devices S X I W → (system : S) → (aside : List Call) → S × Done
+    → (folder : List ℕ) → Limits → (input input_after : StandardInput I) → (out out_after : W) → Type 0
+ComesOfSessionOver over system aside result folder limits input input_after out out_after =
+    ComesOfSession (over.state system) over.shelf over.keeps_open over.disk
+    (calls_made aside (over.state result.0)) folder limits over.left over.contents input input_after out out_after
+    result.1.unclosed result.1.outcome

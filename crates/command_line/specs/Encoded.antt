@@ -4,14 +4,16 @@ use Rattle.std.specs.Prelude.{◌≡◌, ◌≢◌, ◌⊎◌, ℕ, Bool, true, 
 use Rattle.std.specs.Io.KnownBytes.{Appends}
 use Rattle.folder_shelf.specs.Replay.{Unseen}
 use Rattle.folder_shelf.specs.Calls.{Call}
-use Rattle.command_words.specs.Asks.{FormText}
+use Rattle.command_words.specs.Asks.{FormText, form_text}
 use Rattle.command_words.specs.declared.form_words.FormWords.{FormWords}
 use Rattle.command_support.specs.AskedForm.{IsListRefused}
 use Rattle.command_support.specs.Forms.{HasFormFault}
 use Rattle.file_commands.specs.ByIndex.{DoesByIndex}
 use Rattle.file_commands.specs.Records.{ListsAsked, words_of}
 use Rattle.file_commands.specs.Salvaged.{SalvagesFileAt, IsSalvageRefused}
+use Rattle.file_commands.specs.declared.asked_list.Listing.{Listing}
 use Rattle.file_commands.specs.declared.listing.Bounds.{Bounds}
+use Rattle.file_commands.specs.declared.salvaging.Salvaging.{Salvaging}
 use Rattle.salvaged_records.specs.Salvaged.{outputs}
 use Rattle.streams.specs.InUtf8.{in_utf_8}
 use Rattle.streams.specs.declared.backslashes.Backslashes.{Backslashes}
@@ -73,3 +75,14 @@ pub record SalvagesEncoded
       (outputs before behind (contents_told told) (contents_told told_after)) calls outcome))
   pub untouched : IfErr result (λ fault. status_of fault ≢ 4 → new ≡ old)
   pub fault : IfErr result (IsEncodedRefused asked)
+
+-- both for what is asked of a list and of a salvage
+abbrev pub ListsIn : {W : Type 0} → Unseen → (input : Option (List ℕ)) → Listing → (W → Option (List ℕ))
+    → (old new : W) → Result Outcome CommandFault → List Call → Type 0
+ListsIn disk input asked contents old new result calls = ListsEncoded asked.checked disk input asked.file.now
+    asked.bounds asked.form contents old new result calls
+
+abbrev pub SalvagesIn : {E W : Type 0} → (input : Option (List ℕ)) → Salvaging → (E → Option (List ℕ))
+    → (told told_after : E) → (W → Option (List ℕ)) → (old new : W) → Result Outcome CommandFault → List Call → Type 0
+SalvagesIn input asked contents_told told told_after contents old new result calls = SalvagesEncoded input
+    asked.file.now (form_text asked.form) asked.places contents_told told told_after contents old new result calls

@@ -1,16 +1,20 @@
 -- The form of the text of a load, as a word asks for it. All of this is ours.
-use Rattle.std.specs.Prelude.{◌≡◌, ◌≢◌, ◌⊎◌, Bool, false, List, map, codes, Option, IsSome}
+use Rattle.std.specs.Prelude.{◌≡◌, ◌≢◌, ◌⊎◌, ℕ, Bool, false, List, map, codes, Option, IsSome, Result}
 use Rattle.clap.specs.Words.{Text as Word}
 use Rattle.file_control.specs.Description.{FileDesc}
 use Rattle.record_text.specs.declared.column.Column.{Column}
 use Rattle.record_text.specs.declared.form.Form.{Form}
 use Rattle.record_text.specs.declared.form.Form.TheVariants.{Text, Csv, Json}
 use Rattle.record_text.specs.Parts.{part_of_column, item_parts}
+use Rattle.folder_shelf.specs.Calls.{Call}
 use Rattle.command_support.specs.DeckFile.{IsDeckFault}
+use Rattle.command_support.specs.Front.{GivesSuch, IsTextNamed}
 use Rattle.command_support.specs.declared.form_fault.FormFault.TheVariants.{Kind, Encoding as NoEncoding}
 use Rattle.command_support.specs.declared.fault.CommandFault.{CommandFault}
 use Rattle.command_support.specs.declared.fault.CommandFault.TheVariants.{Form as NoForm, LoneRejects}
-use Rattle.command_line.specs.Encoding.{IsNoEncodingWord}
+use Rattle.command_line.specs.Encoding.{IsNoEncodingWord, IsTextIn, encoding_word}
+use Rattle.command_line.specs.declared.encoded_text.LoadText.{LoadText}
+use Rattle.command_line.specs.declared.encoding.Encoding.{Encoding}
 use Rattle.command_line.specs.declared.load_form.FormKind.{FormKind}
 use Rattle.command_line.specs.declared.load_form.FormKind.TheVariants as kinds
 
@@ -44,3 +48,9 @@ IsLoadFault form encoding fault = ((fault ≡ NoForm Kind) × IsNoFormWord form)
 abbrev pub IsFaultOfLoad : (form encoding : Word) → (rejects : Option Word) → (keep_going : Bool) → CommandFault → Type 0
 IsFaultOfLoad form encoding rejects keep_going fault =
     IsLoadFault form encoding fault ⊎ ((fault ≡ LoneRejects) × IsSome rejects × (keep_going ≡ false))
+
+-- the text that a word names was read, in an encoding; or the input or memory failed
+abbrev pub ReadsEncoded : (input : Option (List ℕ)) → (path : Word) → Encoding → FormKind
+    → Result LoadText CommandFault → List Call → Type 0
+ReadsEncoded input path encoding kind result calls = GivesSuch (λ text. IsTextIn (encoding_word encoding)
+    (form_word kind) (IsTextNamed calls input path) text.list.items) result

@@ -27,7 +27,8 @@ use Rattle.record_loading.specs.Loaded.{KeepsOtherNames, IsSafeLoad, is_compared
 use Rattle.record_loading.specs.SortedLoad.{EndsTextLoad}
 use Rattle.record_loading.specs.declared.shelf_end.ShelfEnd.{ShelfEnd}
 use Rattle.record_loading.specs.declared.shelf_end.ShelfEnd.TheVariants.{IsThere, Loaded}
-use Rattle.command_line.specs.CallsMade.{CallsMade, BeginsNothing, folder_behind}
+use Rattle.command_line.specs.CallsMade.{CallsMade, BeginsNothing, calls_made, folder_behind}
+use Rattle.command_line.specs.Devices.{Devices}
 use Rattle.command_line.specs.Folder.{OverFolder}
 use Rattle.command_line.specs.Encoding.{IsTextIn, encoding_word}
 use Rattle.command_line.specs.LoadForm.{IsFormOf, IsFaultOfLoad, form_word}
@@ -134,6 +135,11 @@ TellsLoad path schema (Ok end) calls before behind outcome =
 TellsLoad path schema (Err fault) calls before behind outcome =
     (outcome ≡ Err fault) × IsShelfFault fault × (calls ≡ []) × (behind ≡ before)
 
+-- so of a load that ended so
+abbrev pub TellsEndOfLoad : (path : List ℕ) → Schema → ShelfEnd → (before behind : Option (List ℕ))
+    → Result Outcome CommandFault → List Call → Type 0
+TellsEndOfLoad path schema end before behind outcome calls = TellsLoad path schema (Ok end) calls before behind outcome
+
 -- the bytes are a deck that has a file of this name, a text was loaded into that file in this folder,
 -- in the form that a word asks for, which left this system, and it was told how that ended
 pub record LoadsDeck
@@ -199,3 +205,18 @@ LoadsAsked old left input disk made deck folder asks contents out out_after outc
     asks.encoding.now asks.into asks.lines disk made (contents out) (contents out_after) outcome)
     (IsFaultOfLoad asks.form.now asks.encoding.now (option_map (λ text. text.now) asks.rejects) asks.lines.keep_going)
     old made out out_after outcome
+
+-- both over devices
+abbrev pub LoadsDeckOver : {S X I W : Type 0} → Devices S X I W → (system : S) → (aside : List Call)
+    → S × Result Outcome CommandFault → StandardInput I → (bytes : List ℕ) → (path : String Global) → FormKind
+    → Encoding → Loading → (out out_after : W) → Type 0
+LoadsDeckOver over system aside result input bytes path kind encoding asks out out_after =
+    LoadsBytes (over.state system) over.left input over.disk (calls_made aside (over.state result.0)) bytes path kind
+    encoding asks over.contents out out_after result.1
+
+abbrev pub LoadsAskedOver : {S X I W : Type 0} → Devices S X I W → (system : S) → (aside : List Call)
+    → S × Result Outcome CommandFault → StandardInput I → (deck folder : List ℕ) → Loading → (out out_after : W)
+    → Type 0
+LoadsAskedOver over system aside result input deck folder asks out out_after = LoadsAsked (over.state system)
+    over.left input over.disk (calls_made aside (over.state result.0)) deck folder asks over.contents out out_after
+    result.1

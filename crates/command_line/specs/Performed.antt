@@ -21,8 +21,9 @@ use Rattle.command_words.specs.Asks.{FormText, AskRun, AskCheck, AskServe, AskSc
 use Rattle.command_words.specs.declared.line_options.LineOptions.{LineOptions}
 use Rattle.command_words.specs.Asks.{AskList, AskCobol, AskLoad, AskStat, AskSalvage, AskHelp, AskNothing}
 use Rattle.command_words.specs.declared.limits.Limits.{Limits}
-use Rattle.command_line.specs.CallsMade.{CallsMade, BeginsNothing, folder_behind, streams_first}
+use Rattle.command_line.specs.CallsMade.{CallsMade, BeginsNothing, calls_made, folder_behind, streams_first}
 use Rattle.command_line.specs.Copied.{AskForCopy, EndsInName}
+use Rattle.command_line.specs.Devices.{Devices}
 use Rattle.command_line.specs.Folder.{OverFolder}
 use Rattle.command_line.specs.Transcript.{IsRunFault}
 use Rattle.command_line.specs.Encoding.{IsNoEncodingWord}
@@ -33,6 +34,7 @@ use Rattle.command_support.specs.DeckFile.{IsDeckAsked, IsHalf}
 use Rattle.command_support.specs.Forms.{HasFormFault}
 use Rattle.command_support.specs.Front.{IsDeckNamed}
 use Rattle.streams.specs.declared.standard_input.StandardInput.{StandardInput}
+use Rattle.command_line.specs.declared.done.Done.{Done}
 use Rattle.command_line.specs.declared.done.Ran.{Ran}
 use Rattle.command_support.specs.Status.{status_of}
 use Rattle.command_support.specs.declared.form_fault.FormFault.{FormFault}
@@ -293,3 +295,10 @@ Did words (Err (Usage text)) = AskNothing words text
 Did words (Err Input) = ⊤
 Did words (Err Output) = ⊤
 Did words (Err Memory) = ⊤
+
+-- so over devices
+abbrev pub ComesOfRunOver : {S X I W : Type 0} → Devices S X I W → (system : S) → (aside : List Call) → S × Done
+    → StandardInput I → (deck folder : List ℕ) → Limits → (strict : Bool) → (out out_after : W) → Type 0
+ComesOfRunOver over system aside result input deck folder limits strict out out_after =
+    ComesOfRun (over.state system) over.left input deck folder limits strict over.disk
+    (calls_made aside (over.state result.0)) over.contents out out_after result.1.ran result.1.outcome

@@ -1,7 +1,8 @@
 -- The library of a session over a folder. All of this is ours.
-use Rattle.std.specs.Prelude.{◌≡◌, ◌≢◌, ℕ, Bool, List, [], Option, Result, Ok, Err}
+use Rattle.std.specs.Prelude.{◌≡◌, ◌≢◌, ℕ, Bool, List, [], ◌∷◌, Option, Result, Ok, Err}
 use Rattle.std.specs.NonZero.{non_zero_usize_get}
 use Rattle.page_store.specs.declared.shelf.Shelf.{Ghosts}
+use Rattle.folder_shelf.specs.Calls.{entered}
 use Rattle.folder_shelf.specs.SystemState.{SystemState}
 use Rattle.folder_shelf.specs.Replay.{Unseen, folder_state}
 use Rattle.io_state.specs.declared.status.Status.{Status}
@@ -19,6 +20,7 @@ use Rattle.serve.specs.declared.fault.ServeFault.{ServeFault}
 use Rattle.serve.specs.declared.fault.ServeFault.TheVariants.{Input as NotRead, Output as NotWritten}
 use Rattle.serve.specs.declared.fault.ServeFault.TheVariants.{Memory as NoMemory}
 use Rattle.command_words.specs.declared.limits.Limits.{Limits}
+use Rattle.command_line.specs.Devices.{Devices}
 use Rattle.command_line.specs.Folder.{folder_at_first, OverFolder}
 use Rattle.command_line.specs.declared.session.ServedEnd.{ServedEnd}
 use Rattle.command_support.specs.declared.fault.CommandFault.{CommandFault}
@@ -91,3 +93,16 @@ ServedAt {X} shelf keeps_open disk path limits left contents input input_after o
     × (served : ServedOver (shown_over shelf) (keeps_over shelf keeps_open) start
     (streams_of left contents input input_after out out_after) (IsLeftIn shelf disk system) session)
     × IsExactOver disk path system served.ends.session.served.exchanges served.ends.session.closes
+
+-- so over devices
+abbrev pub ServedAtOver : {S X I W : Type 0} → Devices S X I W → (path : List ℕ) → Limits
+    → (input input_after : StandardInput I) → (out out_after : W) → S × ServedEnd → Type 0
+ServedAtOver over path limits input input_after out out_after result = ServedAt over.shelf over.keeps_open over.disk
+    path limits over.left over.contents input input_after out out_after (over.state result.0) result.1
+
+-- where memory was wanted before the first request, nothing was read or written, and nothing was asked in the
+-- folder but to enter it
+abbrev pub EndsWithoutMemory : {I W : Type 0} → (folder : List ℕ) → (input input_after : StandardInput I)
+    → (out out_after : W) → SystemState → ServedEnd → Type 0
+EndsWithoutMemory folder input input_after out out_after system session = session.requests ≡ Err Memory
+    → (input_after ≡ input) × (out_after ≡ out) × (system.calls ≡ entered folder ∷ [])

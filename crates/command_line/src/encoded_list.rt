@@ -1,52 +1,51 @@
 //! The list of the records of a file, and of those that are left in one, in the encoding that words ask
 //! for.
 ghost use Rattle.std.specs.Prelude.{◌≡◌, ◌≢◌, [], IfErr};
-ghost use Rattle.folder_shelf.specs.Reading.{ByReads};
-ghost use Rattle.record_listing.specs.ByPath.{ByReadsAside};
-ghost use Rattle.command_words.specs.Asks.{form_text};
+ghost use Rattle.record_listing.specs.ByPath.{ReadsAside};
+ghost use Rattle.command_support.specs.Front.{ReadsOnly};
 ghost use Rattle.command_support.specs.Status.{status_of};
-ghost use Rattle.command_line.specs.Encoded.{ListsEncoded, SalvagesEncoded};
-ghost use Rattle.command_line.specs.Lists.{ListsEitherWay};
+ghost use Rattle.command_line.specs.Encoded.{ListsIn, SalvagesIn};
+ghost use Rattle.command_line.specs.Lists.{ListsAsAsked};
 ghost use Rattle.std.specs.Prelude.{codes};
 
 use crate::encoding::{Encoding, backslashes_of, encoding_of};
 use crate::handing_over::hand_over;
 use command_support::{CommandFault, FormFault, Outcome};
-use command_words::FormWords;
-use file_commands::{Bounds, list_checked, list_records, salvage_path};
+use file_commands::{Listing, Salvaging, list_checked, list_records, salvage_path};
 use folder_shelf::{CallRecord, Disk, System};
 use std::alloc::Global;
 use std::io::{Read, Write};
-use streams::{Progress, StandardInput};
+use streams::Progress;
 
-/// Lists the records of the file of a path, after a check of it or as it is read. What was asked before
+/// ListsAsAsked the records of the file of a path, after a check of it or as it is read. What was asked before
 /// the file is read page after page is set aside.
 fn list<S: System + Drop, D: Disk, I: Read, P: Progress, W: Write>(
     system: S,
     aside: &mut CallRecord,
     alloc: Global,
-    file: &str,
-    bounds: Bounds<'_>,
-    form: FormWords<'_>,
-    checked: bool,
-    input: &mut StandardInput<I>,
+    listing: Listing<'_>,
+    input: &mut I,
     progress: &mut P,
     out: &mut W,
 ) -> (S, Result<Outcome, CommandFault>)
     requires none_aside { aside.old.calls ≡ [] }
-    ensures so { ByReadsAside (ListsEitherWay checked D.Disk.unseen (I.remaining input.old.reader) file.now
-        bounds.entry form.entry W.contents out.old out.new result.1)
-        (S.state system).calls aside.new.calls (S.state result.0).calls }
+    ensures so { ReadsAside S.state system aside.new.calls result (ListsAsAsked D.Disk.unseen (I.remaining input.old)
+        listing.entry W.contents out.old out.new) }
     ensures untouched { IfErr result.1 (λ fault. status_of fault ≢ 4 → out.new ≡ out.old) }
 {
     let mut system = system;
+    let checked = listing.checked;
     if checked {
+        let Listing {
+            file,
+            bounds,
+            form,
+            checked: _,
+        } = listing;
         let listed = list_checked(&mut system, alloc, file, bounds, form, input, progress, out);
         return (system, listed);
     }
-    list_records::<S, D, _, P, W>(
-        system, aside, alloc, file, bounds, form, input, progress, out,
-    )
+    list_records::<S, D, _, P, W>(system, aside, alloc, listing, input, progress, out)
 }
 
 /// So in UTF-8. The text of the list is made whole before it is written.
@@ -54,27 +53,23 @@ fn list_in_utf_8<S: System + Drop, D: Disk, I: Read, P: Progress, W: Write>(
     system: S,
     aside: &mut CallRecord,
     alloc: Global,
-    file: &str,
-    bounds: Bounds<'_>,
-    form: FormWords<'_>,
-    checked: bool,
-    input: &mut StandardInput<I>,
+    listing: Listing<'_>,
+    input: &mut I,
     progress: &mut P,
     out: &mut W,
 ) -> (S, Result<Outcome, CommandFault>)
     requires none_aside { aside.old.calls ≡ [] }
-    requires encoding { form.encoding.now ≡ codes "utf-8" }
-    ensures { ByReadsAside (ListsEncoded checked D.Disk.unseen (I.remaining input.old.reader) file.now
-        bounds.entry form.entry W.contents out.old out.new result.1)
-        (S.state system).calls aside.new.calls (S.state result.0).calls }
+    requires encoding { listing.form.encoding.now ≡ codes "utf-8" }
+    ensures { ReadsAside S.state system aside.new.calls result (ListsIn D.Disk.unseen (I.remaining input.old)
+        listing.entry W.contents out.old out.new) }
 {
     let mut text = Vec::new(alloc);
     let (system, listed) = list::<S, D, I, P, Vec<u8>>(
-        system, aside, alloc, file, bounds, form, checked, input, progress, &mut text,
+        system, aside, alloc, listing, input, progress, &mut text,
     );
     let told = hand_over(
         alloc,
-        backslashes_of(form.kind),
+        backslashes_of(listing.form.kind),
         text.as_slice(),
         listed,
         out,
@@ -87,27 +82,23 @@ pub fn list_encoded<S: System + Drop, D: Disk, I: Read, P: Progress, W: Write>(
     system: S,
     aside: &mut CallRecord,
     alloc: Global,
-    file: &str,
-    bounds: Bounds<'_>,
-    form: FormWords<'_>,
-    checked: bool,
-    input: &mut StandardInput<I>,
+    listing: Listing<'_>,
+    input: &mut I,
     progress: &mut P,
     out: &mut W,
 ) -> (S, Result<Outcome, CommandFault>)
     requires none_aside { aside.old.calls ≡ [] }
-    ensures so { ByReadsAside (ListsEncoded checked D.Disk.unseen (I.remaining input.old.reader) file.now
-        bounds.entry form.entry W.contents out.old out.new result.1)
-        (S.state system).calls aside.new.calls (S.state result.0).calls }
+    ensures so { ReadsAside S.state system aside.new.calls result (ListsIn D.Disk.unseen
+        (I.remaining input.old) listing.entry W.contents out.old out.new) }
     ensures untouched { IfErr result.1 (λ fault. status_of fault ≢ 4 → out.new ≡ out.old) }
 {
-    match encoding_of(form.encoding) {
+    match encoding_of(listing.form.encoding) {
         None => (system, Err(CommandFault::Form(FormFault::Encoding))),
         Some(Encoding::Ascii) => list::<S, D, I, P, W>(
-            system, aside, alloc, file, bounds, form, checked, input, progress, out,
+            system, aside, alloc, listing, input, progress, out,
         ),
         Some(Encoding::Utf8) => list_in_utf_8::<S, D, I, P, W>(
-            system, aside, alloc, file, bounds, form, checked, input, progress, out,
+            system, aside, alloc, listing, input, progress, out,
         ),
     }
 }
@@ -117,23 +108,20 @@ pub fn list_encoded<S: System + Drop, D: Disk, I: Read, P: Progress, W: Write>(
 fn salvage_in_utf_8<S: System, I: Read, E: Write, W: Write>(
     system: &mut S,
     alloc: Global,
-    file: &str,
-    form: FormWords<'_>,
-    places: bool,
+    asked: Salvaging<'_>,
     input: &mut I,
-    doubts: &mut E,
+    err: &mut E,
     out: &mut W,
 ) -> Result<Outcome, CommandFault>
-    requires encoding { form.encoding.now ≡ codes "utf-8" }
-    ensures { ByReads (SalvagesEncoded (I.remaining input.old) file.now (form_text form.entry) places
-        E.contents doubts.old doubts.new W.contents out.old out.new result)
-        (S.state system.old) (S.state system.new) }
+    requires encoding { asked.form.encoding.now ≡ codes "utf-8" }
+    ensures { ReadsOnly S.state system.old system.new (SalvagesIn (I.remaining input.old) asked.entry
+        E.contents err.old err.new W.contents out.old out.new result) }
 {
     let mut text = Vec::new(alloc);
-    let salvaged = salvage_path(system, alloc, file, form, places, input, doubts, &mut text);
+    let salvaged = salvage_path(system, alloc, asked, input, err, &mut text);
     hand_over(
         alloc,
-        backslashes_of(form.kind),
+        backslashes_of(asked.form.kind),
         text.as_slice(),
         salvaged,
         out,
@@ -145,24 +133,17 @@ fn salvage_in_utf_8<S: System, I: Read, E: Write, W: Write>(
 pub fn salvage_encoded<S: System, I: Read, E: Write, W: Write>(
     system: &mut S,
     alloc: Global,
-    file: &str,
-    form: FormWords<'_>,
-    places: bool,
+    asked: Salvaging<'_>,
     input: &mut I,
-    doubts: &mut E,
+    err: &mut E,
     out: &mut W,
 ) -> Result<Outcome, CommandFault>
-    ensures { ByReads (SalvagesEncoded (I.remaining input.old) file.now (form_text form.entry) places
-        E.contents doubts.old doubts.new W.contents out.old out.new result)
-        (S.state system.old) (S.state system.new) }
+    ensures { ReadsOnly S.state system.old system.new (SalvagesIn (I.remaining input.old) asked.entry
+        E.contents err.old err.new W.contents out.old out.new result) }
 {
-    match encoding_of(form.encoding) {
+    match encoding_of(asked.form.encoding) {
         None => Err(CommandFault::Form(FormFault::Encoding)),
-        Some(Encoding::Ascii) => {
-            salvage_path(system, alloc, file, form, places, input, doubts, out)
-        }
-        Some(Encoding::Utf8) => {
-            salvage_in_utf_8(system, alloc, file, form, places, input, doubts, out)
-        }
+        Some(Encoding::Ascii) => salvage_path(system, alloc, asked, input, err, out),
+        Some(Encoding::Utf8) => salvage_in_utf_8(system, alloc, asked, input, err, out),
     }
 }

@@ -1,8 +1,7 @@
 //! The text of a load, in an encoding.
 ghost use Rattle.folder_shelf.specs.Reading.{ByReads};
-ghost use Rattle.command_support.specs.Front.{GivesSuch, IsTextNamed};
-ghost use Rattle.command_line.specs.Encoding.{AreBackslashesOf, IsTextIn, encoding_word};
-ghost use Rattle.command_line.specs.LoadForm.{form_word};
+ghost use Rattle.command_line.specs.Encoding.{AreBackslashesOf};
+ghost use Rattle.command_line.specs.LoadForm.{ReadsEncoded, form_word};
 
 use crate::encoding::Encoding;
 use crate::load_form::FormKind;
@@ -39,8 +38,7 @@ pub fn read_encoded<S: System, I: Read>(
     path: &str,
     input: &mut I,
 ) -> Result<LoadText, CommandFault>
-    ensures { ByReads (λ calls. GivesSuch (λ text. IsTextIn (encoding_word encoding) (form_word form)
-        (IsTextNamed calls (I.remaining input.old) path.now) text.list.items) result)
+    ensures { ByReads (ReadsEncoded (I.remaining input.old) path.now encoding form result)
         (S.state system.old) (S.state system.new) }
 {
     let text = match read_text(system, alloc, path, input) {

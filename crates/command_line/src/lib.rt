@@ -14,6 +14,7 @@
 
 mod causes;
 mod copying;
+mod devices;
 mod done;
 mod encoded_list;
 mod encoded_text;
@@ -31,6 +32,7 @@ mod standard_streams;
 mod told_load;
 mod transcript;
 
+pub use devices::{Over, Seen};
 pub use explaining::every_reason_is_explained;
 pub use performing::program;
 pub use session::{ServedEnd, serve_folder};

@@ -1,9 +1,10 @@
 //! The loading of a text into a file of a deck over a folder.
 ghost use Rattle.std.specs.Prelude.{◌≡◌, [], true, false, codes, string_bytes, IfErr};
 ghost use Rattle.record_text.specs.Whole.{IsWholeForm};
-ghost use Rattle.command_line.specs.CallsMade.{calls_made};
-ghost use Rattle.command_line.specs.Loaded.{load_of, options_of, load_source, LoadsDescribed, IsShelfFault, LoadsBytes};
+ghost use Rattle.command_line.specs.Loaded.{load_of, options_of, load_source, LoadsDescribed, IsShelfFault};
+ghost use Rattle.command_line.specs.Loaded.{LoadsDeckOver};
 
+use crate::devices::{Over, Seen};
 use crate::encoded_text::read_encoded;
 use crate::encoding::Encoding;
 use crate::foreign_lines::ForeignLog;
@@ -149,9 +150,8 @@ pub fn load_deck<
     out: &mut W,
 ) -> (S, Result<Outcome, CommandFault>)
     requires none_aside { aside.old.calls ≡ [] }
-    ensures { LoadsBytes (S.state system) I.remaining input.old D.Disk.unseen
-        (calls_made aside.new.calls (S.state result.0)) bytes.now folder kind encoding asked.entry
-        W.contents out.old out.new result.1 }
+    ensures { LoadsDeckOver ⟦<Over<S, D, I, W> as Seen>⟧.devices system aside.new.calls result input.old
+        bytes.now folder kind encoding asked.entry out.old out.new }
 {
     let mut system = system;
     let deck = match deck_of(alloc, bytes) {

@@ -1,14 +1,14 @@
 //! The answering of requests over the files of a folder.
-ghost use Rattle.std.specs.Prelude.{◌≡◌, [], ◌∷◌, Err, string_bytes, IfErr};
-ghost use Rattle.folder_shelf.specs.Calls.{entered};
+ghost use Rattle.std.specs.Prelude.{◌≡◌, [], string_bytes, IfErr};
 ghost use Rattle.folder_shelf.specs.Within.{StaysWithin};
 ghost use Rattle.command_support.specs.Status.{status_of};
-ghost use Rattle.command_line.specs.Session.{ServedAt, session_told_as, session_end_as};
+ghost use Rattle.command_line.specs.Session.{ServedAtOver, EndsWithoutMemory, session_told_as};
+ghost use Rattle.command_line.specs.Session.{session_end_as};
 
+use crate::devices::{Over, Seen};
 use command_support::CommandFault;
 use command_words::Limits;
 use folder_shelf::{Disk, FolderShelf, System};
-use page_store::{GrowingShelf, Shelf};
 use serve::{ServeFault, serve};
 use shelf_library::ShelfLibrary;
 use shelf_run::exact_on_shelf;
@@ -59,11 +59,10 @@ pub fn serve_folder<S: System + Drop, D: Disk, I: Read + ReadsAhead, W: Write>(
     out: &mut W,
 ) -> (S, ServedEnd)
     requires unasked { (S.state system).calls ≡ [] }
-    ensures served { ServedAt ⟦<FolderShelf<S, D> as Shelf>⟧
-        (⟦<FolderShelf<S, D> as GrowingShelf>⟧).keeps_open D.Disk.unseen (string_bytes folder) limits
-        I.remaining W.contents input.old input.new out.old out.new (S.state result.0) result.1 }
-    ensures memory { result.1.requests ≡ Err CommandFault.Memory → (input.new ≡ input.old) × (out.new ≡ out.old)
-        × ((S.state result.0).calls ≡ entered (string_bytes folder) ∷ []) }
+    ensures served { ServedAtOver ⟦<Over<S, D, I, W> as Seen>⟧.devices (string_bytes folder) limits
+        input.old input.new out.old out.new result }
+    ensures memory { EndsWithoutMemory (string_bytes folder) input.old input.new out.old out.new
+        (S.state result.0) result.1 }
     ensures fault { IfErr result.1.requests (λ fault. status_of fault ≡ 4) }
     ensures within { StaysWithin (S.state result.0) }
 {

@@ -1,8 +1,8 @@
 //! What is told of a load.
-ghost use Rattle.std.specs.Prelude.{◌≡◌, [], string_bytes, Ok, IfOk, IfErr};
+ghost use Rattle.std.specs.Prelude.{◌≡◌, [], string_bytes, IfOk, IfErr};
 ghost use Rattle.folder_shelf.specs.Reading.{ByReads};
 ghost use Rattle.folder_shelf.specs.SystemState.{file_path};
-ghost use Rattle.command_line.specs.Loaded.{TellsLoad, WritesEnd};
+ghost use Rattle.command_line.specs.Loaded.{TellsEndOfLoad, WritesEnd};
 
 use command_support::{CommandFault, Outcome};
 use file_commands::{differences_at, path_in};
@@ -57,8 +57,8 @@ pub fn tell_end<S: System, W: Write>(
     out: &mut W,
 ) -> Result<Outcome, CommandFault>
     requires { room.items ≡ [] }
-    ensures { ByReads (λ calls. TellsLoad path.now schema.now (Ok end.now) calls
-        (W.contents out.old) (W.contents out.new) result) (S.state system.old) (S.state system.new) }
+    ensures { ByReads (TellsEndOfLoad path.now schema.now end.now (W.contents out.old) (W.contents out.new) result)
+        (S.state system.old) (S.state system.new) }
 {
     if !is_compared(*end) {
         return write_answer(room, end, &[], out);

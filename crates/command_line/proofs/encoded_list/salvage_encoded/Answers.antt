@@ -7,5 +7,5 @@ use Rattle.command_line.proofs.encoded_list.salvage_encoded.Goals as goal
 pub returns-in-None : goal.returns-in-None
 returns-in-None g c =
     by_none (g.S.System.state c.args.system.now)
-    (in_none_salvaged (g.I.Read.remaining c.args.input.now) c.args.file.now (form_text c.args.form) c.args.places g.E.Write.contents
-    c.args.doubts.now c.args.doubts.now [] g.W.Write.contents c.args.out.now (c.encoding_of.ensures.none c.in-None.is))
+    (in_none_salvaged (g.I.Read.remaining c.args.input.now) c.args.asked.file.now (form_text c.args.asked.form) c.args.asked.places g.E.Write.contents
+    c.args.err.now c.args.err.now [] g.W.Write.contents c.args.out.now (c.encoding_of.ensures.none c.in-None.is))

@@ -127,7 +127,7 @@ pub returns-in-Salvage-clause-did : goal.returns-in-Salvage-clause-did
 returns-in-Salvage-clause-did g c words is =
     let asked = subst (Ask words) c.in-Salvage.is is in
     rw c.without_run-in-Salvage.ensures (did_salvage words (for_salvage words c.in-Salvage.file c.in-Salvage.form c.in-Salvage.places asked) (g.I.Read.remaining c.args.input.now.reader)
-    (g.W.Write.contents c.args.out.now) (g.W.Write.contents c.salvage_encoded-salvaged.new.out) (g.E.Write.contents c.args.doubts.now) (g.E.Write.contents c.salvage_encoded-salvaged.new.doubts)
+    (g.W.Write.contents c.args.out.now) (g.W.Write.contents c.salvage_encoded-salvaged.new.out) (g.E.Write.contents c.args.doubts.now) (g.E.Write.contents c.salvage_encoded-salvaged.new.err)
     c.salvage_encoded-salvaged.ensures.calls c.salvage_encoded-salvaged.result c.salvage_encoded-salvaged.ensures.so.records c.salvage_encoded-salvaged.ensures.so.fault)
 
 pub returns-in-Salvage-clause-came : goal.returns-in-Salvage-clause-came
@@ -138,7 +138,7 @@ returns-in-Salvage-clause-came g c words is =
     rw c.without_run-in-Salvage.ensures (inl (reads_alone g.D.Disk.unseen words input g.W.Write.contents c.args.out.now c.salvage_encoded-salvaged.new.out c.args.aside.now.calls c.requires.none_aside held (g.S.System.state c.salvage_encoded-salvaged.new.system) c.requires.held
     c.salvage_encoded-salvaged.result c.salvage_encoded-salvaged.ensures (c.args.request, rw c.in-Salvage.is tt, is)
     (λ calls so. right_salvage g.D.Disk.unseen words calls input g.W.Write.contents c.args.out.now c.salvage_encoded-salvaged.new.out (for_salvage words c.in-Salvage.file c.in-Salvage.form c.in-Salvage.places asked)
-    (g.E.Write.contents c.args.doubts.now) (g.E.Write.contents c.salvage_encoded-salvaged.new.doubts) c.salvage_encoded-salvaged.result so.records)))
+    (g.E.Write.contents c.args.doubts.now) (g.E.Write.contents c.salvage_encoded-salvaged.new.err) c.salvage_encoded-salvaged.result so.records)))
 
 pub returns-in-Cobol-clause-did : goal.returns-in-Cobol-clause-did
 returns-in-Cobol-clause-did g c words is =
