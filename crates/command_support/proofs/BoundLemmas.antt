@@ -2,7 +2,8 @@
 use Rattle.std.proofs.Common.{arith, ◌≡◌, ◌≤◌, ◌-◌, ℕ, List, [], ◌∷◌, ◌++◌, length, take, drop, slice_index_or, Option, Some, None, refl, sym, ap, ◌∙◌, append_assoc, append-nil, subst}
 use Rattle.std.specs.Option.{option_map_or}
 use Rattle.std.proofs.lemmas.List.{take_rest}
-use Rattle.command_support.specs.Bound.{byte_in, byte_of_digits, digit_in, unescaped, StandsForByte}
+use Rattle.command_support.specs.Bound.{byte_in, byte_of_digits, unescaped, StandsForByte}
+use Rattle.streams.specs.Hex.{hex_number}
 
 -- a byte is written as an escape
 escape_stands : (first high low : ℕ) (rest : List ℕ) (byte : ℕ) → byte_in (first ∷ high ∷ low ∷ rest) ≡ Some byte → StandsForByte (first ∷ high ∷ low ∷ rest) byte rest
@@ -17,7 +18,7 @@ plain_bytes first (high ∷ []) is = refl
 plain_bytes first (high ∷ low ∷ rest) is = ap (λ (o : Option ℕ). option_map_or (λ (b : ℕ). b ∷ unescaped rest) o (first ∷ unescaped (high ∷ low ∷ rest))) is
 
 -- an escape is at the front of a text
-pub escape_in_front : (text : List ℕ) (byte : ℕ) → 3 ≤ length text → slice_index_or text 0 0 ≡ 92 → byte_of_digits (digit_in (slice_index_or text 1 0)) (digit_in (slice_index_or text 2 0)) ≡ Some byte
+pub escape_in_front : (text : List ℕ) (byte : ℕ) → 3 ≤ length text → slice_index_or text 0 0 ≡ 92 → byte_of_digits (hex_number (slice_index_or text 1 0)) (hex_number (slice_index_or text 2 0)) ≡ Some byte
     → StandsForByte text byte (take (length text - 3) (drop 3 text))
 escape_in_front [] byte long first digits = let no : ⊥ = omega (arith, long) in absurd no
 escape_in_front (a ∷ []) byte long first digits = let no : ⊥ = omega (arith, long) in absurd no

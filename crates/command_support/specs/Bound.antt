@@ -3,13 +3,9 @@ use Rattle.std.specs.Prelude.{◌≡◌, ℕ, ◌+◌, ◌*◌, ◌-◌, ◌<◌
 use Rattle.std.specs.Prelude.{Option, Some, None}
 use Rattle.std.specs.Prelude.{if◌then◌else◌, Result, IfOk, IfErr}
 use Rattle.std.specs.Option.{option_map_or}
+use Rattle.streams.specs.Hex.{hex_number}
 use Rattle.command_support.specs.declared.fault.CommandFault.{CommandFault}
 use Rattle.command_support.specs.declared.fault.CommandFault.TheVariants.{LongValue}
-
--- what a hexadecimal digit counts, if it is one; its letters are small
-abbrev pub digit_in : ℕ → Option ℕ
-digit_in byte = if nat_le 48 byte && nat_le byte 57 then Some (byte - 48)
-    else (if nat_le 97 byte && nat_le byte 102 then Some (byte - 97 + 10) else None)
 
 -- the byte of two digits, if both are
 abbrev pub byte_of_digits : Option ℕ → Option ℕ → Option ℕ
@@ -23,7 +19,7 @@ byte_in [] = None
 byte_in (first ∷ []) = None
 byte_in (first ∷ high ∷ []) = None
 byte_in (first ∷ high ∷ low ∷ rest) =
-    if first == 92 then byte_of_digits (digit_in high) (digit_in low) else None
+    if first == 92 then byte_of_digits (hex_number high) (hex_number low) else None
 
 -- the bytes for which a text stands: each byte that is written so, and any other as it is
 abbrev pub unescaped : List ℕ → List ℕ

@@ -1,30 +1,20 @@
 //! A bound of a list, as a list writes the bytes of a record.
 ghost use Rattle.std.specs.Prelude.{◌≡◌, ◌<◌, [], None, option_map};
 ghost use Rattle.std.specs.Option.{IfSome};
-ghost use Rattle.command_support.specs.Bound.{byte_in, byte_of_digits, digit_in, StandsForByte, unescaped};
+ghost use Rattle.command_support.specs.Bound.{byte_in, byte_of_digits, StandsForByte, unescaped};
+ghost use Rattle.streams.specs.Hex.{hex_number};
 ghost use Rattle.command_support.specs.Front.{word_in};
 ghost use Rattle.command_support.specs.Bound.{FitsValue};
 
 use crate::fault::CommandFault;
 use io_state::Key;
-
-/// What a hexadecimal digit counts, if it is one; its letters are small.
-fn digit_of(byte: u8) -> Option<u8>
-    ensures value { result ≡ digit_in byte }
-    ensures small { IfSome result (λ digit. digit < 16) }
-{
-    match byte {
-        b'0'..=b'9' => Some(byte - b'0'),
-        b'a'..=b'f' => Some(byte - b'a' + 10),
-        _ => None,
-    }
-}
+use streams::hex_number;
 
 /// The byte of two hexadecimal digits, if both are.
 fn byte_of(high: u8, low: u8) -> Option<u8>
-    ensures { result ≡ byte_of_digits (digit_in high) (digit_in low) }
+    ensures { result ≡ byte_of_digits (hex_number high) (hex_number low) }
 {
-    match (digit_of(high), digit_of(low)) {
+    match (hex_number(high), hex_number(low)) {
         (Some(high), Some(low)) => Some(high * 16 + low),
         _ => None,
     }

@@ -31,7 +31,7 @@ pub use deck_reader::{Deck, read_deck};
 pub use deck_run::run_deck;
 pub use fault::RunFault;
 pub use held_lines::only_reads;
-pub use line::{hex_digit, is_plain};
+pub use line::is_plain;
 pub use run_end::RunEnd;
 pub use whole_run::{
     clean_fronts_are_exact, clean_runs_are_exact, images_are_of_ledger, no_false_file,

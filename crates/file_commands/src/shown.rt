@@ -3,8 +3,8 @@ ghost use Rattle.std.specs.Prelude.{◌≡◌, ◌++◌, OnOk};
 ghost use Rattle.deck_runner.specs.Line.{shown_byte};
 ghost use Rattle.record_text.specs.Columns.{text_of};
 
-use deck_runner::hex_digit;
 use std::alloc::AllocError;
+use streams::hex_digit;
 
 /// Adds a byte as it is shown.
 fn add_byte(text: &mut Vec<u8>, byte: u8) -> Result<(), AllocError>

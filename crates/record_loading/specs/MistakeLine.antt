@@ -1,6 +1,6 @@
 -- The line that tells what is wrong with a line that is no record's. Its form is ours.
 use Rattle.std.specs.Prelude.{ℕ, ◌/◌, ◌%◌, ◌==◌, List, [], ◌∷◌, ◌++◌, codes, decimal, if◌then◌else◌}
-use Rattle.deck_runner.specs.Line.{hex_digit}
+use Rattle.streams.specs.Hex.{hex_digit}
 use Rattle.record_text.specs.declared.mistake.Stray.{Stray}
 use Rattle.record_text.specs.declared.mistake.Stray.TheVariants.{End, Backslash, Char}
 use Rattle.record_text.specs.declared.mistake.ValueMistake.{ValueMistake}

@@ -8,10 +8,10 @@ ghost use Rattle.record_loading.specs.MistakeLine.{line_mistake_text, mistake_li
 
 use crate::end::{LinesEnd, LoadEnd};
 use crate::rejected::RejectReason;
-use deck_runner::hex_digit;
 use itoa::Buffer;
 use record_text::{ColumnMistake, LineMistake, Stray, ValueMistake};
 use std::io::{self, Write};
+use streams::hex_digit;
 
 /// Writes a number.
 fn write_number<W: Write>(out: &mut W, n: u64) -> io::Result<()>

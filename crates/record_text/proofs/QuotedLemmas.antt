@@ -2,7 +2,8 @@
 use Rattle.std.proofs.Common.{◌≡◌, ◌≢◌, ◌<◌, ℕ, ◌+◌, ◌/◌, ◌%◌, ◌==◌, ◌||◌, Bool, true, false, List, [], ◌∷◌, ◌++◌, flat_map, refl, sym, ap, ◌∙◌, arith, true≢false}
 use Rattle.std.specs.Prelude.{if◌then◌else◌, nat_lt}
 use Rattle.std.proofs.lemmas.Bool.{ne_eqb, eqb-true, ltb-true, ltb-false}
-use Rattle.deck_runner.specs.Line.{hex_digit, is_plain, shown_byte}
+use Rattle.deck_runner.specs.Line.{is_plain, shown_byte}
+use Rattle.streams.specs.Hex.{hex_digit}
 use Rattle.record_text.specs.Csv.{doubled_quote}
 use Rattle.record_text.specs.Json.{escaped}
 use Rattle.record_text.specs.declared.quoted.Quoting.{Quoting}

@@ -2,7 +2,8 @@
 use Rattle.std.proofs.Common.{◌≡◌, ℕ, ◌+◌, ◌/◌, ◌%◌, Bool, true, false, List, [], ◌∷◌, ◌++◌, flat_map, refl, sym, ap, ◌∙◌, arith, true≢false, append_assoc}
 use Rattle.std.specs.Prelude.{if◌then◌else◌, nat_lt}
 use Rattle.std.proofs.lemmas.Bool.{ltb-true}
-use Rattle.deck_runner.specs.Line.{hex_digit, is_plain, shown_byte}
+use Rattle.deck_runner.specs.Line.{is_plain, shown_byte}
+use Rattle.streams.specs.Hex.{hex_digit}
 
 same_digit : (m n : ℕ) (a b : Bool) → nat_lt m 10 ≡ a → nat_lt n 10 ≡ b → (if a then 48 + m else 87 + m) ≡ (if b then 48 + n else 87 + n) → m ≡ n
 same_digit m n true true p q e = omega (arith, e)

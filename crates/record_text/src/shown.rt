@@ -5,8 +5,9 @@ ghost use Rattle.record_text.specs.Columns.{text_of};
 ghost use Rattle.record_text.specs.Room.{AddsInRoom};
 
 use crate::text::{add, add_char};
-use deck_runner::{hex_digit, is_plain};
+use deck_runner::is_plain;
 use std::alloc::AllocError;
+use streams::hex_digit;
 
 /// A byte that does not stand as itself, as it is shown: a backslash and two digits.
 pub fn escape_of(byte: u8) -> [u8; 3]

@@ -1,9 +1,11 @@
 //! The byte that a text begins with, as it is shown in the line of a record.
 ghost use Rattle.std.specs.Prelude.{◌≡◌, ◌<◌, ◌≤◌, ◌/◌, ◌%◌, ◌*◌, ◌+◌, ◌++◌, ◌∷◌, [], ℕ, List, IfSome, None};
-ghost use Rattle.deck_runner.specs.Line.{hex_digit, shown_byte};
+ghost use Rattle.deck_runner.specs.Line.{shown_byte};
+ghost use Rattle.streams.specs.Hex.{hex_digit};
 ghost use Rattle.record_text.specs.Quoted.{ShowsFirst};
 
 use deck_runner::is_plain;
+use streams::hex_number;
 
 /// A byte at the front of a text, and how many bytes of the text show it.
 #[derive(Clone, Copy, Debug, PartialEq, Eq)]
@@ -12,25 +14,13 @@ pub struct ShownByte {
     pub size: usize,
 }
 
-/// The number of a hexadecimal digit in lower case.
-fn number_of(digit: u8) -> Option<u8>
-    ensures number { IfSome result (λ n. (n < 16) × (hex_digit n ≡ digit)) }
-    ensures none { result ≡ None → (n : ℕ) → n < 16 → hex_digit n ≡ digit → ⊥ }
-{
-    match digit {
-        b'0'..=b'9' => Some(digit - b'0'),
-        b'a'..=b'f' => Some(digit - 87),
-        _ => None,
-    }
-}
-
 /// The byte that a backslash and these two digits show.
 fn escaped(high: u8, low: u8) -> Option<u8>
     ensures shown { IfSome result (λ byte. shown_byte byte ≡ 92 ∷ high ∷ low ∷ []) }
     ensures none { result ≡ None → (byte : ℕ) → byte < 256 → shown_byte byte ≡ 92 ∷ high ∷ low ∷ [] → ⊥ }
 {
-    let high = number_of(high)?;
-    let low = number_of(low)?;
+    let high = hex_number(high)?;
+    let low = hex_number(low)?;
     let byte = high * 16 + low;
     if is_plain(byte) {
         return None;

@@ -5,7 +5,8 @@ use Rattle.std.specs.Str.{IsAscii}
 use Rattle.std.proofs.lemmas.Bool.{and_parts, eqb-true}
 use Rattle.std.proofs.lemmas.Str.{IsAscii-drop}
 use Rattle.streams.specs.Characters.{is_latin, two_bytes}
-use Rattle.streams.specs.Escapes.{digit_char, is_escape, byte_of, escape_of}
+use Rattle.streams.specs.Escapes.{is_escape, byte_of, escape_of}
+use Rattle.streams.specs.Hex.{hex_digit}
 use Rattle.streams.specs.InUtf8.{in_utf_8}
 use Rattle.streams.specs.InAscii.{in_ascii}
 use Rattle.streams.specs.Laws.{ReadsBack, EncodesEachEscape, shown_in_utf_8}
@@ -15,8 +16,8 @@ use Rattle.streams.proofs.ByteLemmas.{if_true, if_false, escaped, escaped_small,
 use Rattle.streams.proofs.FirstLemmas.{one_escape, one_other, two_escape, two_other, other_first, two_before_other, character_first, ascii_first}
 
 -- the characters of an escape come back
-digits_back : (byte b c : ℕ) (r : List ℕ) → digit_char (byte / 16) ≡ b → digit_char (byte % 16) ≡ c
-    → 92 ∷ digit_char (byte / 16) ∷ digit_char (byte % 16) ∷ r ≡ 92 ∷ b ∷ c ∷ r
+digits_back : (byte b c : ℕ) (r : List ℕ) → hex_digit (byte / 16) ≡ b → hex_digit (byte % 16) ≡ c
+    → 92 ∷ hex_digit (byte / 16) ∷ hex_digit (byte % 16) ∷ r ≡ 92 ∷ b ∷ c ∷ r
 digits_back byte b c r high low = ap₂ (λ h l. 92 ∷ h ∷ l ∷ r) high low
 
 one_character : (a b c : ℕ) (r : List ℕ) → c < 256 → is_escape a b c ≡ true
@@ -105,12 +106,12 @@ part_small n h = (omega (arith, h), omega (arith, h))
 one_each : (t : Bool) (byte : ℕ) (behind : List ℕ) → byte < 256 → is_latin byte ≡ t
     → in_utf_8 One (escape_of One byte ++ behind) ≡ shown_in_utf_8 One byte ++ in_utf_8 One behind
 one_each true byte behind h t =
-    one_escape 92 (digit_char (byte / 16)) (digit_char (byte % 16)) behind (latin_escape byte h t)
+    one_escape 92 (hex_digit (byte / 16)) (hex_digit (byte % 16)) behind (latin_escape byte h t)
     ∙ ap (λ k. two_bytes k ++ in_utf_8 One behind) (latin_byte_of byte h t)
     ∙ ap (λ l. l ++ in_utf_8 One behind) (sym (if_true (is_latin byte) (two_bytes byte) (escape_of One byte) t))
 one_each false byte behind h t =
-    let high = digit_char (byte / 16) in
-    let low = digit_char (byte % 16) in
+    let high = hex_digit (byte / 16) in
+    let low = hex_digit (byte % 16) in
     let small = part_small byte h in
     one_other 92 high low behind (other_escape byte h t)
     ∙ ap (λ l. 92 ∷ l) (other_first One high (low ∷ behind) (digit_no_backslash (byte / 16) small.0))
@@ -120,12 +121,12 @@ one_each false byte behind h t =
 two_each : (t : Bool) (byte : ℕ) (behind : List ℕ) → byte < 256 → is_latin byte ≡ t
     → in_utf_8 Two (escape_of Two byte ++ behind) ≡ shown_in_utf_8 Two byte ++ in_utf_8 Two behind
 two_each true byte behind h t =
-    two_escape 92 (digit_char (byte / 16)) (digit_char (byte % 16)) behind (latin_escape byte h t)
+    two_escape 92 (hex_digit (byte / 16)) (hex_digit (byte % 16)) behind (latin_escape byte h t)
     ∙ ap (λ k. two_bytes k ++ in_utf_8 Two behind) (latin_byte_of byte h t)
     ∙ ap (λ l. l ++ in_utf_8 Two behind) (sym (if_true (is_latin byte) (two_bytes byte) (escape_of Two byte) t))
 two_each false byte behind h t =
-    let high = digit_char (byte / 16) in
-    let low = digit_char (byte % 16) in
+    let high = hex_digit (byte / 16) in
+    let low = hex_digit (byte % 16) in
     let small = part_small byte h in
     two_other 92 92 high low behind (other_escape byte h t)
     ∙ ap (λ l. 92 ∷ l) (two_before_other 92 high (low ∷ behind) (digit_no_backslash (byte / 16) small.0))

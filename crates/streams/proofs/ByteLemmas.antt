@@ -3,7 +3,8 @@ use Rattle.std.proofs.Common.{◌≡◌, ◌≢◌, ℕ, ◌+◌, ◌-◌, ◌*�
 use Rattle.std.specs.Prelude.{if◌then◌else◌, nat_lt, ◌==◌, ◌&&◌, ◌||◌, not}
 use Rattle.std.proofs.lemmas.Bool.{true≢false, false≢true, eqb-true, ne_eqb, ltb-true, lt-ltb, and_parts, and_left, or_from, agree_below, agree_below_at}
 use Rattle.streams.specs.Characters.{is_latin, is_character, latin_byte}
-use Rattle.streams.specs.Escapes.{digit_char, digit_number, is_digit, is_escape, byte_of}
+use Rattle.streams.specs.Escapes.{digit_number, is_digit, is_escape, byte_of}
+use Rattle.streams.specs.Hex.{hex_digit}
 
 pub if_true : {A : Type 0} (t : Bool) (x y : A) → t ≡ true → (if t then x else y) ≡ x
 if_true true x y h = refl
@@ -24,9 +25,9 @@ of_byte : (p q : ℕ → Bool) (byte : ℕ) → agree_below (λ b. not (p b) || 
 of_byte p q byte h small = imply_at (p byte) (q byte) (agree_below_at (λ b. not (p b) || q b) (λ _. true) 256 byte h small)
 
 -- the digit of the number that a digit has
-digit_back : (char : ℕ) → char < 256 → is_digit char ≡ true → digit_char (digit_number char) ≡ char
+digit_back : (char : ℕ) → char < 256 → is_digit char ≡ true → hex_digit (digit_number char) ≡ char
 digit_back char small h =
-    eqb-true (digit_char (digit_number char)) char (of_byte is_digit (λ b. digit_char (digit_number b) == b) char refl small h)
+    eqb-true (hex_digit (digit_number char)) char (of_byte is_digit (λ b. hex_digit (digit_number b) == b) char refl small h)
 
 digit_small : (char : ℕ) → char < 256 → is_digit char ≡ true → digit_number char < 16
 digit_small char small h = ltb-true (digit_number char) 16 (of_byte is_digit (λ b. nat_lt (digit_number b) 16) char refl small h)
@@ -35,9 +36,9 @@ digit_small char small h = ltb-true (digit_number char) 16 (of_byte is_digit (λ
 abbrev is_high : ℕ → Bool
 is_high char = nat_lt 96 char && nat_lt char 103
 
-high_back : (char : ℕ) → char < 256 → is_high char ≡ true → digit_char (char - 87) ≡ char
+high_back : (char : ℕ) → char < 256 → is_high char ≡ true → hex_digit (char - 87) ≡ char
 high_back char small h =
-    eqb-true (digit_char (char - 87)) char (of_byte is_high (λ b. digit_char (b - 87) == b) char refl small h)
+    eqb-true (hex_digit (char - 87)) char (of_byte is_high (λ b. hex_digit (b - 87) == b) char refl small h)
 
 -- what an escape is
 pub record Escaped (a b c : ℕ) : Type 0 where
@@ -79,14 +80,14 @@ high_part b d above low = omega (arith, above, low)
 low_part : (b d : ℕ) → 96 < b → d < 16 → ((b - 87) * 16 + d) % 16 ≡ d
 low_part b d above low = omega (arith, above, low)
 
-pub high_digit : (a b c : ℕ) → c < 256 → Escaped a b c → digit_char (byte_of b c / 16) ≡ b
+pub high_digit : (a b c : ℕ) → c < 256 → Escaped a b c → hex_digit (byte_of b c / 16) ≡ b
 high_digit a b c small e =
     let below = e.below in
-    ap digit_char (high_part b (digit_number c) e.above (digit_small c small e.digit)) ∙ high_back b (omega (arith, below)) e.high
+    ap hex_digit (high_part b (digit_number c) e.above (digit_small c small e.digit)) ∙ high_back b (omega (arith, below)) e.high
 
-pub low_digit : (a b c : ℕ) → c < 256 → Escaped a b c → digit_char (byte_of b c % 16) ≡ c
+pub low_digit : (a b c : ℕ) → c < 256 → Escaped a b c → hex_digit (byte_of b c % 16) ≡ c
 low_digit a b c small e =
-    ap digit_char (low_part b (digit_number c) e.above (digit_small c small e.digit)) ∙ digit_back c small e.digit
+    ap hex_digit (low_part b (digit_number c) e.above (digit_small c small e.digit)) ∙ digit_back c small e.digit
 
 -- ---- characters
 
@@ -113,20 +114,20 @@ no_test : (char : ℕ) → char ≡ 92 → not (char == 92) ≡ true → ⊥
 no_test char e h = false≢true (subst (λ (k : ℕ). not (k == 92) ≡ true) e h)
 
 -- the digits of a byte are no backslash
-pub digit_no_backslash : (n : ℕ) → n < 256 → digit_char n ≢ 92
+pub digit_no_backslash : (n : ℕ) → n < 256 → hex_digit n ≢ 92
 digit_no_backslash n small e =
-    let test : (not (digit_char n == 92)) ≡ true = agree_below_at (λ b. not (digit_char b == 92)) (λ _. true) 256 n refl small in
-    no_test (digit_char n) e test
+    let test : (not (hex_digit n == 92)) ≡ true = agree_below_at (λ b. not (hex_digit b == 92)) (λ _. true) 256 n refl small in
+    no_test (hex_digit n) e test
 
 -- the escape of a byte from a0 to ff is one
-pub latin_escape : (byte : ℕ) → byte < 256 → is_latin byte ≡ true → is_escape 92 (digit_char (byte / 16)) (digit_char (byte % 16)) ≡ true
+pub latin_escape : (byte : ℕ) → byte < 256 → is_latin byte ≡ true → is_escape 92 (hex_digit (byte / 16)) (hex_digit (byte % 16)) ≡ true
 latin_escape byte small h =
-    of_byte is_latin (λ b. is_escape 92 (digit_char (b / 16)) (digit_char (b % 16))) byte refl small h
+    of_byte is_latin (λ b. is_escape 92 (hex_digit (b / 16)) (hex_digit (b % 16))) byte refl small h
 
-pub latin_byte_of : (byte : ℕ) → byte < 256 → is_latin byte ≡ true → byte_of (digit_char (byte / 16)) (digit_char (byte % 16)) ≡ byte
+pub latin_byte_of : (byte : ℕ) → byte < 256 → is_latin byte ≡ true → byte_of (hex_digit (byte / 16)) (hex_digit (byte % 16)) ≡ byte
 latin_byte_of byte small h =
-    eqb-true (byte_of (digit_char (byte / 16)) (digit_char (byte % 16))) byte
-    (of_byte is_latin (λ b. byte_of (digit_char (b / 16)) (digit_char (b % 16)) == b) byte refl small h)
+    eqb-true (byte_of (hex_digit (byte / 16)) (hex_digit (byte % 16))) byte
+    (of_byte is_latin (λ b. byte_of (hex_digit (b / 16)) (hex_digit (b % 16)) == b) byte refl small h)
 
 -- that of another byte is none
 not_true : (t : Bool) → not t ≡ true → t ≡ false
@@ -137,10 +138,10 @@ from_false : (t : Bool) → t ≡ false → not t ≡ true
 from_false true h = absurd (true≢false h)
 from_false false h = refl
 
-pub other_escape : (byte : ℕ) → byte < 256 → is_latin byte ≡ false → is_escape 92 (digit_char (byte / 16)) (digit_char (byte % 16)) ≡ false
+pub other_escape : (byte : ℕ) → byte < 256 → is_latin byte ≡ false → is_escape 92 (hex_digit (byte / 16)) (hex_digit (byte % 16)) ≡ false
 other_escape byte small h =
-    not_true (is_escape 92 (digit_char (byte / 16)) (digit_char (byte % 16)))
-    (of_byte (λ b. not (is_latin b)) (λ b. not (is_escape 92 (digit_char (b / 16)) (digit_char (b % 16)))) byte refl small (from_false (is_latin byte) h))
+    not_true (is_escape 92 (hex_digit (byte / 16)) (hex_digit (byte % 16)))
+    (of_byte (λ b. not (is_latin b)) (λ b. not (is_escape 92 (hex_digit (b / 16)) (hex_digit (b % 16)))) byte refl small (from_false (is_latin byte) h))
 
 -- what begins with no backslash is no escape
 pub no_backslash : (a b c : ℕ) → a ≢ 92 → is_escape a b c ≡ false

@@ -1,16 +1,13 @@
 -- The escapes of those bytes in the lines of records.
 use Rattle.std.specs.Prelude.{ℕ, ◌+◌, ◌-◌, ◌*◌, ◌/◌, ◌%◌, ◌==◌, ◌&&◌, ◌||◌, Bool, nat_lt, List, [], ◌∷◌, if◌then◌else◌}
+use Rattle.streams.specs.Hex.{hex_digit}
 use Rattle.streams.specs.declared.backslashes.Backslashes.{Backslashes}
 use Rattle.streams.specs.declared.backslashes.Backslashes.TheVariants.{One, Two}
 
--- a hexadecimal digit, in lower case
-abbrev pub digit_char : ℕ → ℕ
-digit_char n = if nat_lt n 10 then 48 + n else 87 + n
-
 -- a backslash, or two in JSON, and the two digits of a byte
 abbrev pub escape_of : Backslashes → ℕ → List ℕ
-escape_of One byte = 92 ∷ digit_char (byte / 16) ∷ digit_char (byte % 16) ∷ []
-escape_of Two byte = 92 ∷ 92 ∷ digit_char (byte / 16) ∷ digit_char (byte % 16) ∷ []
+escape_of One byte = 92 ∷ hex_digit (byte / 16) ∷ hex_digit (byte % 16) ∷ []
+escape_of Two byte = 92 ∷ 92 ∷ hex_digit (byte / 16) ∷ hex_digit (byte % 16) ∷ []
 
 -- the number of a hexadecimal digit in lower case
 abbrev pub digit_number : ℕ → ℕ

@@ -6,6 +6,7 @@ pub mod LinesIn
 pub mod LineEnds
 pub mod FaultLines
 pub mod Characters
+pub mod Hex
 pub mod Escapes
 pub mod InUtf8
 pub mod InAscii

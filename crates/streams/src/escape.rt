@@ -1,9 +1,11 @@
 //! Escapes of bytes from a0 to ff, and their characters.
 ghost use Rattle.std.specs.Prelude.{◌≡◌, ◌<◌, ◌∷◌, ◌/◌, ◌%◌, [], true, false, IfSome, None};
 ghost use Rattle.streams.specs.Characters.{two_bytes, is_character, latin_byte};
-ghost use Rattle.streams.specs.Escapes.{digit_char, digit_number, is_digit, is_escape, byte_of, escape_of};
+ghost use Rattle.streams.specs.Escapes.{digit_number, is_digit, is_escape, byte_of, escape_of};
+ghost use Rattle.streams.specs.Hex.{hex_digit};
 
 use crate::backslashes::Backslashes;
+use crate::hex::hex_digit;
 
 /// Whether this is a hexadecimal digit in lower case.
 fn is_digit(char: u8) -> bool
@@ -19,14 +21,6 @@ fn digit_number(char: u8) -> u8
     ensures small { result < 16 }
 {
     if char < 58 { char - 48 } else { char - 87 }
-}
-
-/// A hexadecimal digit, in lower case.
-fn digit_char(n: u8) -> u8
-    requires { n < 16 }
-    ensures { result ≡ digit_char n }
-{
-    if n < 10 { 48 + n } else { 87 + n }
 }
 
 /// The byte of an escape, if these are one of a byte from a0 to ff.
@@ -64,7 +58,7 @@ pub fn character_byte(lead: u8, next: u8) -> Option<u8>
 
 /// The digits of the escape of a byte.
 pub fn digits_of(byte: u8) -> [u8; 2]
-    ensures { result ≡ digit_char (byte / 16) ∷ digit_char (byte % 16) ∷ [] }
+    ensures { result ≡ hex_digit (byte / 16) ∷ hex_digit (byte % 16) ∷ [] }
 {
-    [digit_char(byte / 16), digit_char(byte % 16)]
+    [hex_digit(byte / 16), hex_digit(byte % 16)]
 }
