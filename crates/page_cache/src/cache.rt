@@ -53,6 +53,7 @@ impl Cache {
         ensures { IsEmptyCache store (most_frames self) result }
     {
         let Cache { frames, page, .. } = self;
+        // Its clause brings that no page has two frames.
         let _held = frames.len();
         Cache {
             store,
@@ -130,6 +131,7 @@ impl Cache {
             shelf.new result }
     {
         self.asked = self.asked.saturating_add(1);
+        // Whether it is held is asked of `held_mut`, which lends the page.
         let _held = self.frames.touch(n);
         match self.held_mut(n) {
             Ok(page) => {
@@ -184,6 +186,7 @@ impl Cache {
         ensures { SettlesPlace S.state S.fault_count place self.old self.new shelf.old shelf.new result }
     {
         self.write(shelf, place)?;
+        // Its clause brings that no page has two frames.
         let _held = self.frames.len();
         self.frames.settle(place);
         Ok(())
@@ -222,6 +225,7 @@ impl Cache {
         requires held { place < pages_held self.old }
         ensures { WritesPlace S.state S.fault_count place self.old self.new shelf.old shelf.new result }
     {
+        // Its clause brings that no page has two frames.
         let _held = self.frames.len();
         let (n, changed, page) = self.frames.at(place);
         if changed {

@@ -34,7 +34,6 @@ impl Cache {
         requires { IsOverHeader self.old (S.state shelf.old) }
         ensures { WritesHeader S.state S.fault_count page.now self.old self.new shelf.old shelf.new result }
     {
-        let _pages = self.store.pages;
         self.store.write_page(shelf, 0, page)
     }
 
