@@ -13,7 +13,7 @@ ghost use Rattle.open_file.specs.Steps.{TellsFirstOf};
 ghost use Rattle.open_file.specs.Calls.{ReadsByKey, SeeksHighest};
 
 use crate::open_file::OpenFile;
-use indexed_file::Found;
+use indexed_file::{Found, copy_of};
 use io_state::{Fault, Key};
 use key_index::{AltEntry, AltFirst, AltIndex};
 use pages::Pages;
@@ -212,13 +212,4 @@ impl OpenFile {
         let length = self.heap.get_record(pages, place, area)?;
         Ok(length as u16)
     }
-}
-
-/// A copy, which takes no memory.
-pub(crate) fn copy_of(key: &Key) -> Key
-    ensures { result.items ≡ key.now.items }
-{
-    let mut copy = Key::new();
-    let _ = copy.try_extend_from_slice(key.as_slice());
-    copy
 }
