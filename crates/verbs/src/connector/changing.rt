@@ -8,11 +8,10 @@ ghost use Rattle.verbs.specs.Parts.{MakesUpdate, rewriting, deleting};
 ghost use Rattle.verbs.specs.Held.{last_read_in, prime_to_delete_by};
 ghost use Rattle.verbs.specs.Fits.{MayPerform, MaySubstitute, MayTakeOut};
 
-use super::{Connector, copy_of};
-use crate::checks::{
-    changes_prime, is_for_updating, is_length, is_sequential, is_unread, status_by,
-};
-use indexed_file::{Library, Replaced};
+use super::Connector;
+use crate::admission::{Purpose, admit};
+use crate::checks::{changes_prime, is_length, is_sequential, is_unread, status_by};
+use indexed_file::{Library, Replaced, copy_of};
 use io_state::{Fault, Key, Status};
 
 impl Connector {
@@ -28,17 +27,11 @@ impl Connector {
         ensures { AnswersFrom L.shown u Rewrite length
             self.old lib.old area.now result self.new lib.new }
     {
-        let Some(mode) = self.mode else {
-            return Status::NotOpenForUpdating;
-        };
         let was_read = self.was_read;
         self.was_read = false;
-        if self.failed {
-            return Status::ConnectorFailed;
-        }
-        let updatable = is_for_updating(mode);
-        if !updatable {
-            return Status::NotOpenForUpdating;
+        match admit(Purpose::Updating, self.access, self.mode, self.failed) {
+            Ok(_) => {}
+            Err(status) => return status,
         }
         let fit = is_length(&self.schema, length);
         let unread = is_unread(self.access, was_read);
@@ -83,17 +76,11 @@ impl Connector {
         ensures { (n : ℕ) → AnswersFrom L.shown u Delete n
             self.old lib.old area.now result self.new lib.new }
     {
-        let Some(mode) = self.mode else {
-            return Status::NotOpenForUpdating;
-        };
         let was_read = self.was_read;
         self.was_read = false;
-        if self.failed {
-            return Status::ConnectorFailed;
-        }
-        let updatable = is_for_updating(mode);
-        if !updatable {
-            return Status::NotOpenForUpdating;
+        match admit(Purpose::Updating, self.access, self.mode, self.failed) {
+            Ok(_) => {}
+            Err(status) => return status,
         }
         let unread = is_unread(self.access, was_read);
         if unread {

@@ -5,8 +5,9 @@ ghost use Rattle.verbs.specs.Fits.{MayPerform};
 ghost use Rattle.verbs.specs.Performed.{AnswersInto, AnswersFrom};
 
 use super::Connector;
+use crate::admission::{Purpose, admit};
 use crate::answer::Answer;
-use crate::checks::{is_for_reading, is_invalid, status_of};
+use crate::checks::{is_invalid, status_of};
 use indexed_file::Library;
 use io_state::{Relation, Status};
 
@@ -22,16 +23,10 @@ impl Connector {
         ensures { (n : ℕ) → AnswersInto L.shown u ReadNext n
             self.old lib.old area.old result self.new lib.new area.new }
     {
-        let Some(mode) = self.mode else {
-            return Answer::silent(Status::NotOpenForReading);
-        };
         self.was_read = false;
-        if self.failed {
-            return Answer::silent(Status::ConnectorFailed);
-        }
-        let readable = is_for_reading(mode);
-        if !readable {
-            return Answer::silent(Status::NotOpenForReading);
+        match admit(Purpose::Reading, self.access, self.mode, self.failed) {
+            Ok(_) => {}
+            Err(status) => return Answer::silent(status),
         }
         let lost = is_invalid(&self.position);
         if lost {
@@ -60,16 +55,10 @@ impl Connector {
         ensures { (n : ℕ) → AnswersInto L.shown u (Read k) n
             self.old lib.old area.old result self.new lib.new area.new }
     {
-        let Some(mode) = self.mode else {
-            return Answer::silent(Status::NotOpenForReading);
-        };
         self.was_read = false;
-        if self.failed {
-            return Answer::silent(Status::ConnectorFailed);
-        }
-        let readable = is_for_reading(mode);
-        if !readable {
-            return Answer::silent(Status::NotOpenForReading);
+        match admit(Purpose::Reading, self.access, self.mode, self.failed) {
+            Ok(_) => {}
+            Err(status) => return Answer::silent(status),
         }
         if self.missing {
             return Answer::silent(self.lose(Status::RecordNotFound));
@@ -96,16 +85,10 @@ impl Connector {
         ensures { (n : ℕ) → AnswersFrom L.shown u (Start k length relation) n
             self.old lib.old area.now result self.new lib.new }
     {
-        let Some(mode) = self.mode else {
-            return Status::NotOpenForReading;
-        };
         self.was_read = false;
-        if self.failed {
-            return Status::ConnectorFailed;
-        }
-        let readable = is_for_reading(mode);
-        if !readable {
-            return Status::NotOpenForReading;
+        match admit(Purpose::Reading, self.access, self.mode, self.failed) {
+            Ok(_) => {}
+            Err(status) => return status,
         }
         if self.missing {
             return self.lose(Status::RecordNotFound);

@@ -12,9 +12,10 @@ ghost use Rattle.verbs.specs.Performed.{AnswersFrom};
 ghost use Rattle.verbs.specs.Parts.{PutsRecord, StoresRecord, LearnsOfFile};
 
 use super::Connector;
+use crate::admission::{Purpose, admit};
 use crate::checks::{is_length, is_not_above, is_sequential, status_by};
 use indexed_file::{Added, Library};
-use io_state::{Fault, Status, Verb, permits};
+use io_state::{Fault, Status};
 
 impl Connector {
     /// WRITE of the record in the first `length` bytes of the area.
@@ -29,16 +30,10 @@ impl Connector {
         ensures { AnswersFrom L.shown u Write length
             self.old lib.old area.now result self.new lib.new }
     {
-        let Some(mode) = self.mode else {
-            return Status::NotOpenForWriting;
-        };
         self.was_read = false;
-        if self.failed {
-            return Status::ConnectorFailed;
-        }
-        let permitted = permits(self.access, mode, Verb::Write);
-        if !permitted {
-            return Status::NotOpenForWriting;
+        match admit(Purpose::Writing, self.access, self.mode, self.failed) {
+            Ok(_) => {}
+            Err(status) => return status,
         }
         let fit = is_length(&self.schema, length);
         if !fit {
