@@ -14,6 +14,7 @@ ghost use Rattle.file_changes.specs.Steps.{CanTakeRecord, CanLookFor, CanChangeW
 ghost use Rattle.file_changes.specs.Steps.{CanStore, HasRoomFor, KeepsMark, KeepsMade, ChangesHeap};
 ghost use Rattle.file_changes.specs.Steps.{ChangesPrime, ChangesAlternates, ChangesAlternate, TakesPages};
 
+use crate::key_number::number_of;
 use crate::room::is_full;
 use crate::stamps::new_stamps;
 use indexed_file::Added;
@@ -159,15 +160,16 @@ pub(crate) fn add_to_alternate<P: Pages>(
     ensures alternate { ChangesAlternate P.shown j true 8 opened.old opened.new
         pages.old pages.new result }
 {
-    let part = opened.part(j as u8 + 1);
-    let value = opened.value(bytes, j as u8 + 1);
+    let k = number_of(j);
+    let part = opened.part(k);
+    let value = opened.value(bytes, k);
     let prime = opened.value(bytes, 0);
     let stamp = if part.has_duplicates() {
         opened.next_stamp()
     } else {
         0
     };
-    let mut index = opened.alternate(j + 1);
+    let mut index = opened.alternate(usize::from(k));
     let added = index.add(pages, value, stamp, prime)?;
     opened.put_alternate(j, index);
     if added { Ok(()) } else { Err(Fault::Damage) }

@@ -7,16 +7,17 @@ ghost use Rattle.file_changes.specs.Replacing.{HaveKey, HaveStamps, AreStampsAft
 ghost use Rattle.file_changes.specs.Replacing.{stamp_after, differs_in};
 ghost use Rattle.file_changes.specs.Steps.{HaveEachKey};
 
+use crate::key_number::number_of;
 use crate::stamps::push_stamp;
 use arrayvec::ArrayVec;
 use open_file::OpenFile;
 
 /// Whether two records differ in the value of a key.
-pub(crate) fn differs(opened: &OpenFile, k: usize, old: &[u8], new: &[u8]) -> bool
+pub(crate) fn differs(opened: &OpenFile, k: u8, old: &[u8], new: &[u8]) -> bool
     requires { HaveKey opened.now k old.now new.now }
     ensures { result ≡ differs_in opened.now k old.now new.now }
 {
-    opened.value(old, k as u8) != opened.value(new, k as u8)
+    opened.value(old, k) != opened.value(new, k)
 }
 
 /// Whether they differ in the value of a key of duplicates, so that a stamp is taken.
@@ -25,7 +26,7 @@ pub(crate) fn takes_stamp(opened: &OpenFile, old: &[u8], new: &[u8]) -> bool
     ensures { result ≡ takes_stamp (file_schema opened.now) old.now new.now }
 {
     for k in 0..opened.key_count() {
-        if opened.part(k as u8).has_duplicates() && differs(opened, k, old, new) {
+        if opened.part(k as u8).has_duplicates() && differs(opened, k as u8, old, new) {
             return true;
         }
     }
@@ -39,8 +40,9 @@ fn need_to_change(opened: &OpenFile, old: &[u8], new: &[u8]) -> u64
 {
     let mut need = 0;
     for j in 0..opened.alternate_count() {
-        if differs(opened, j + 1, old, new) {
-            need += u64::from(opened.alternate(j + 1).height()) + 1;
+        let k = number_of(j);
+        if differs(opened, k, old, new) {
+            need += u64::from(opened.alternate(usize::from(k)).height()) + 1;
         }
     }
     need
@@ -67,7 +69,7 @@ pub(crate) fn changed_stamps(
 {
     let mut changed = ArrayVec::new();
     for j in 0..opened.alternate_count() {
-        if opened.part(j as u8 + 1).has_duplicates() {
+        if opened.part(number_of(j)).has_duplicates() {
             push_stamp(&mut changed, stamp_after(opened, j, old, stamps[j], new));
         }
     }
@@ -81,7 +83,7 @@ fn stamp_after(opened: &OpenFile, j: usize, old: &[u8], stamp: u64, new: &[u8]) 
     ensures { result ≡ stamp_after (file_schema opened.now) (next_stamp_of opened.now) old.now stamp
         new.now j }
 {
-    if differs(opened, j + 1, old, new) {
+    if differs(opened, number_of(j), old, new) {
         opened.next_stamp()
     } else {
         stamp

@@ -11,6 +11,7 @@
 
 mod adding;
 mod changed;
+mod key_number;
 mod old_record;
 mod removing;
 mod replacing;

@@ -16,6 +16,7 @@ ghost use Rattle.file_changes.specs.Removing.{prime_lost, slot_freed, entry_lost
 ghost use Rattle.file_changes.specs.Steps.{CanChangeWith, CanChangeIndex, ChangesHeap, ChangesPrime};
 ghost use Rattle.file_changes.specs.Steps.{ChangesAlternates, ChangesAlternate, IsNoHigher};
 
+use crate::key_number::number_of;
 use crate::old_record::{LONGEST_SLOT, OldRecord, SHORT_SLOT, find_old, most_stored, record_in};
 use io_state::{Fault, Key};
 use key_index::{AltEntry, AltIndex, PrimeEntry};
@@ -161,8 +162,9 @@ pub(crate) fn remove_from_alternate<P: Pages>(
     ensures others { KeepsOtherIndexes j opened.old opened.new }
     ensures height { OnOk result (IsNoHigher j opened.old opened.new) }
 {
-    let value = opened.value(bytes, j as u8 + 1);
-    let mut index = opened.alternate(j + 1);
+    let k = number_of(j);
+    let value = opened.value(bytes, k);
+    let mut index = opened.alternate(usize::from(k));
     let removed = index.remove(pages, value, stamp)?;
     opened.put_alternate(j, index);
     if removed { Ok(()) } else { Err(Fault::Damage) }

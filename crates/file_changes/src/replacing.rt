@@ -17,6 +17,7 @@ ghost use Rattle.file_changes.specs.Steps.{ChangesAlternates, ChangesAlternate};
 
 use crate::adding::add_to_alternate;
 use crate::changed::{changed_stamps, differs, is_full_to_change, takes_stamp};
+use crate::key_number::number_of;
 use crate::old_record::{LONGEST_SLOT, OldRecord, SHORT_SLOT, find_old, most_stored, record_in};
 use crate::removing::remove_from_alternate;
 use indexed_file::Replaced;
@@ -125,7 +126,7 @@ fn replacing<P: Pages>(
 {
     let mut repeated = false;
     for k in 1..opened.key_count() {
-        if is_new_there(opened, pages, k, old, bytes)? {
+        if is_new_there(opened, pages, k as u8, old, bytes)? {
             if !opened.part(k as u8).has_duplicates() {
                 return Ok(Replaced::Clash);
             }
@@ -139,7 +140,7 @@ fn replacing<P: Pages>(
 fn is_new_there<P: Pages>(
     opened: &OpenFile,
     pages: &mut P,
-    k: usize,
+    k: u8,
     old: &[u8],
     bytes: &[u8],
 ) -> Result<bool, Fault>
@@ -151,7 +152,7 @@ fn is_new_there<P: Pages>(
     if !differs(opened, k, old, bytes) {
         return Ok(false);
     }
-    opened.is_there(pages, k as u8, bytes)
+    opened.is_there(pages, k, bytes)
 }
 
 /// Puts a record that clashes with none in the place of another, where there is room for it.
@@ -212,7 +213,7 @@ fn change_alternates<P: Pages>(
         pages.new result }
 {
     for j in 0..opened.alternate_count() {
-        if differs(opened, j + 1, old, bytes) {
+        if differs(opened, number_of(j), old, bytes) {
             change_alternate(opened, pages, j, old, stamps[j], bytes)?;
         }
     }

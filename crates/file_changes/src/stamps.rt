@@ -5,6 +5,7 @@ ghost use Rattle.byteorder.specs.Endian.{big_bytes};
 ghost use Rattle.open_file.specs.Stands.{IsShaped};
 ghost use Rattle.file_changes.specs.Old.{AreNewStamps};
 
+use crate::key_number::number_of;
 use arrayvec::ArrayVec;
 use byteorder::{BigEndian, ByteOrder};
 use open_file::OpenFile;
@@ -16,7 +17,7 @@ pub(crate) fn new_stamps(opened: &OpenFile) -> ArrayVec<u8, 64>
 {
     let mut stamps = ArrayVec::new();
     for j in 0..opened.alternate_count() {
-        if opened.part(j as u8 + 1).has_duplicates() {
+        if opened.part(number_of(j)).has_duplicates() {
             push_stamp(&mut stamps, opened.next_stamp());
         }
     }

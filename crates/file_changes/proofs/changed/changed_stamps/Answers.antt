@@ -18,7 +18,7 @@ push_stamp-requires c =
     let keys = (file_schema u).keys in
     let d : KeyPart = no_key in
     let lt : c.loop-j.j + 1 < length keys = omega (arith, c.loop-j-test.true, c.alternate_count-j-end.ensures.value, c.requires.records.shaped.keys) in
-    let many = ap has_duplicates (sym c.part.ensures.part) ∙ (sym c.has_duplicates.ensures ∙ c.if-has_duplicates.true) in
+    let many = ap has_duplicates (sym (rw c.number_of.ensures at c.part.ensures.part)) ∙ (sym c.has_duplicates.ensures ∙ c.if-has_duplicates.true) in
     let stamps = stamps_after (next_stamp_of u) c.args.old.now c.args.new.now (drop 1 keys) c.args.stamps.now in
     omega (arith, write_room keys d stamps c.loop-j.j c.loop-j.changed.items c.requires.records.shaped.is_schema.few lt many c.loop-j.invariant)
 
@@ -35,11 +35,11 @@ loop-j-preserved c =
     let within : j < length stamps = omega (arith, lt, whole, length-drop 1 keys) in
     elim c.if-has_duplicates.branch [
       | then-has_duplicates w ↦
-          let many = ap has_duplicates (sym c.part.ensures.part) ∙ (sym c.has_duplicates.ensures ∙ w.if-has_duplicates.true) in
+          let many = ap has_duplicates (sym (rw c.number_of.ensures at c.part.ensures.part)) ∙ (sym c.has_duplicates.ensures ∙ w.if-has_duplicates.true) in
           let number = w.stamp_after.ensures ∙ stamp_of_duplicates (file_schema u) (next_stamp_of u) c.args.old.now c.args.new.now c.args.stamps.now j lt count many in
           rw w.changed-is (write_more keys d stamps j c.loop-j.changed.items w.push_stamp.new.stamps.items lt within many (w.push_stamp.ensures ∙ ap (λ s. c.loop-j.changed.items ++ big_bytes 8 s) number) c.loop-j.invariant)
       | else-has_duplicates w ↦
-          let one = ap has_duplicates (sym c.part.ensures.part) ∙ (sym c.has_duplicates.ensures ∙ w.if-has_duplicates.false) in
+          let one = ap has_duplicates (sym (rw c.number_of.ensures at c.part.ensures.part)) ∙ (sym c.has_duplicates.ensures ∙ w.if-has_duplicates.false) in
           rw w.changed-is (write_none keys d stamps j c.loop-j.changed.items lt within one c.loop-j.invariant)
     ]
 

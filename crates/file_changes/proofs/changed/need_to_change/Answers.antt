@@ -1,4 +1,4 @@
-use Rattle.std.proofs.Common.{◌≡◌, ℕ, ◌+◌, ◌-◌, ◌<◌, Bool, true, false, not, length, arith}
+use Rattle.std.proofs.Common.{◌≡◌, ℕ, ◌+◌, ◌<◌, Bool, true, false, not, length, arith}
 use Rattle.std.specs.Prelude.{if◌then◌else◌}
 use Rattle.std.proofs.lemmas.Grind.{common_steps}
 use Rattle.key_index.specs.Standing.{alt_height}
@@ -25,13 +25,13 @@ loop-j-preserved c =
     let lt : j < length (alternates_of u) = omega (arith, c.loop-j-test.true, c.alternate_count-j-end.ensures.value) in
     elim c.if-differs.branch [
       | then-differs w ↦
-          let is = index_is (alternates_of u) j w.alternate.result w.alternate.ensures in
+          let is = index_is (alternates_of u) j w.alternate.result (rw (w.from.ensures, c.number_of-k.ensures) at w.alternate.ensures) in
           let step = need_step (file_schema u) old new (alternates_of u) j w.alternate.result c.requires.shaped.keys lt is in
-          let here = moves (stays (file_schema u) old new j) c.differs.result (alt_height w.alternate.result + 1) c.differs.ensures w.if-differs.true in
-          record { so_far = omega (arith, w.need-is, w.from.ensures, w.height.ensures, step, here, c.loop-j.invariant.so_far); small = omega (arith, w.need-is, w.from.ensures, w.height.ensures, w.alternate.result.tree.low, c.loop-j.invariant.small) }
+          let here = moves (stays (file_schema u) old new j) c.differs.result (alt_height w.alternate.result + 1) (rw c.number_of-k.ensures at c.differs.ensures) w.if-differs.true in
+          record { so_far = omega (arith, w.need-is, w.from-then-differs.ensures, w.height.ensures, step, here, c.loop-j.invariant.so_far); small = omega (arith, w.need-is, w.from-then-differs.ensures, w.height.ensures, w.alternate.result.tree.low, c.loop-j.invariant.small) }
       | else-differs w ↦
           let index = found_at (alternates_of u) j lt in
           let step = need_step (file_schema u) old new (alternates_of u) j index.0 c.requires.shaped.keys lt index.1 in
-          let here = rests (stays (file_schema u) old new j) c.differs.result (alt_height index.0 + 1) c.differs.ensures w.if-differs.false in
+          let here = rests (stays (file_schema u) old new j) c.differs.result (alt_height index.0 + 1) (rw c.number_of-k.ensures at c.differs.ensures) w.if-differs.false in
           record { so_far = omega (arith, w.need-is, step, here, c.loop-j.invariant.so_far); small = omega (arith, w.need-is, c.loop-j.invariant.small) }
     ]

@@ -57,7 +57,7 @@ loop-j-preserved g c =
           let later = w.change_alternate.new.pages in
           let new = w.change_alternate.new.opened in
           let step = w.change_alternate.ensures.alternate in
-          let moves : stays (file_schema u) old bytes j ≡ false = was_false _ (sym (rw schema at c.differs.ensures) ∙ w.if-differs.true) in
+          let moves : stays (file_schema u) old bytes j ≡ false = was_false _ (sym (rw (schema, c.number_of.ensures) at c.differs.ensures) ∙ w.if-differs.true) in
           let here = ap (λ b. if b then 0 else alt_height index.0 + 1) moves in
           let left : need_from (file_schema u) old bytes (alternates_of new) (j + 1) ≡ need_from (file_schema u) old bytes (alternates_of unit) (j + 1) =
           ap (λ (is : List AltIndex). need_of_changed (drop (j + 1 + 1) (file_schema u).keys) old bytes (map alt_height is)) step.later in
@@ -80,7 +80,7 @@ loop-j-preserved g c =
             asked = omega (arith, need, here, left, inv.asked, step.asked index.0 index.1);
           })
       | else-differs w ↦
-          let same : stays (file_schema u) old bytes j ≡ true = was_true _ (sym (rw schema at c.differs.ensures) ∙ w.if-differs.false) in
+          let same : stays (file_schema u) old bytes j ≡ true = was_true _ (sym (rw (schema, c.number_of.ensures) at c.differs.ensures) ∙ w.if-differs.false) in
           let here = ap (λ b. if b then 0 else alt_height index.0 + 1) same in
           rw (w.opened-is, w.pages-is) (record {
             goes = inv.goes;
@@ -111,7 +111,7 @@ returns-in_err-change_alternate-clause-put g c honest sound slots primes entries
     let schema = ap file_schema inv.rest in
     let next = ap next_stamp_of inv.rest in
     let within : j < length (alternates_of u) = omega (arith, c.loop-j-test.true, c.alternate_count-j-end.ensures.value) in
-    let moves : stays (file_schema u) c.args.old.now c.args.bytes.now j ≡ false = was_false _ (sym (rw schema at c.differs.ensures) ∙ c.if-differs.true) in
+    let moves : stays (file_schema u) c.args.old.now c.args.bytes.now j ≡ false = was_false _ (sym (rw (schema, c.number_of.ensures) at c.differs.ensures) ∙ c.if-differs.true) in
     let before = g.met.P.Pages.writes_honestly now later c.change_alternate.ensures.alternate.goes honest in
     let had = inv.changed before sound slots primes entries p there free in
     let was = changed_here (file_schema u) (next_stamp_of u) row c.args.bytes.now j entries in
@@ -130,7 +130,7 @@ returns-in_err-change_alternate-clause-writes g c =
     let keys : length (file_schema u).keys ≡ length (alternates_of unit) + 1 = omega (arith, c.requires.can.shaped.keys, inv.many) in
     let index = found_at (alternates_of unit) j lt in
     let need = need_step (file_schema u) c.args.old.now c.args.bytes.now (alternates_of unit) j index.0 keys lt index.1 in
-    let moves : stays (file_schema u) c.args.old.now c.args.bytes.now j ≡ false = was_false _ (sym (rw schema at c.differs.ensures) ∙ c.if-differs.true) in
+    let moves : stays (file_schema u) c.args.old.now c.args.bytes.now j ≡ false = was_false _ (sym (rw (schema, c.number_of.ensures) at c.differs.ensures) ∙ c.if-differs.true) in
     let here = ap (λ b. if b then 0 else alt_height index.0 + 1) moves in
     record {
       cause = fails_since c.from_residual.result _ _ _ _ _ c.from_residual.ensures.1 (λ failed. g.met.P.Pages.failed_after c.args.pages.now c.loop-j.pages c.change_alternate.new.pages inv.goes failed)

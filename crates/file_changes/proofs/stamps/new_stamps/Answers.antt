@@ -19,7 +19,7 @@ push_stamp-requires c =
     let keys = (file_schema c.args.opened.now).keys in
     let d : KeyPart = no_key in
     let lt : c.loop-j.j + 1 < length keys = omega (arith, c.loop-j-test.true, c.alternate_count-j-end.ensures.value, c.requires.keys) in
-    let many = ap has_duplicates (sym c.part.ensures.part) ∙ (sym c.has_duplicates.ensures ∙ c.if-has_duplicates.true) in
+    let many = ap has_duplicates (sym (rw c.number_of.ensures at c.part.ensures.part)) ∙ (sym c.has_duplicates.ensures ∙ c.if-has_duplicates.true) in
     let stamps = stamps_of (next_stamp_of c.args.opened.now) (drop 1 keys) in
     omega (arith, write_room keys d stamps c.loop-j.j c.loop-j.stamps.items c.requires.is_schema.few lt many c.loop-j.invariant)
 
@@ -35,12 +35,12 @@ loop-j-preserved c =
     let within : j < length stamps = simp (length-map, length-drop) (omega (arith, lt)) in
     elim c.if-has_duplicates.branch [
       | then-has_duplicates w ↦
-          let many = ap has_duplicates (sym c.part.ensures.part) ∙ (sym c.has_duplicates.ensures ∙ w.if-has_duplicates.true) in
+          let many = ap has_duplicates (sym (rw c.number_of.ensures at c.part.ensures.part)) ∙ (sym c.has_duplicates.ensures ∙ w.if-has_duplicates.true) in
           let number = w.next_stamp.ensures ∙ sym (stamp_of_new schema next j lt ∙ ap (λ b. if b then next else 0) many) in
           rw w.stamps-is (write_more schema.keys d stamps j written w.push_stamp.new.stamps.items lt within many
           (w.push_stamp.ensures ∙ ap (λ s. written ++ big_bytes 8 s) number) c.loop-j.invariant)
       | else-has_duplicates w ↦
-          let one = ap has_duplicates (sym c.part.ensures.part) ∙ (sym c.has_duplicates.ensures ∙ w.if-has_duplicates.false) in
+          let one = ap has_duplicates (sym (rw c.number_of.ensures at c.part.ensures.part)) ∙ (sym c.has_duplicates.ensures ∙ w.if-has_duplicates.false) in
           rw w.stamps-is (write_none schema.keys d stamps j written lt within one c.loop-j.invariant)
     ]
 
