@@ -3,7 +3,7 @@ ghost use Rattle.std.specs.Prelude.{IfOk, OnOk};
 ghost use Rattle.std.specs.Io.{ReadsAtMost, WritesAtMost};
 ghost use Rattle.cobix_inside.specs.Answers.{stream, IsNumberTold, IsDone, IsYesTold, FillsBy};
 ghost use Rattle.cobix_inside.specs.Questions.{read_for};
-ghost use Rattle.cobix_inside.specs.declared.question.Question.TheVariants.{Write as ToWrite, Names};
+ghost use Rattle.cobix_inside.specs.declared.question.Question.TheVariants.{Write as Writes, Names};
 
 use crate::question::{Question, put_question};
 use crate::told::{lock_outcome, outcome, take_number, within};
@@ -79,7 +79,7 @@ pub fn ask_to_write<R: Read, W: Write>(
 ) -> io::Result<usize>
     ensures bound { WritesAtMost result bytes.now }
     ensures told { IfOk result (IsNumberTold (stream R.remaining input.old input.new)
-        (stream W.contents output.old output.new) (ToWrite file at bytes.entry)) }
+        (stream W.contents output.old output.new) (Writes file at bytes.entry)) }
 {
     let told = ask(input, output, &Question::Write { file, at, bytes })?;
     within(told, bytes.len())

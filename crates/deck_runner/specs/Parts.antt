@@ -20,7 +20,7 @@ use Rattle.deck_runner.specs.HeldLines.{so_far, Come, ComeInPart}
 -- file of a place, if it is still open; and the closes of all files that are still open
 pub data RunPart : Type 0 where
   VerbOn : (u : ℕ) → (statement : FileStatement) → RunPart
-  OneStatement : (statement : Statement) → RunPart
+  Single : (statement : Statement) → RunPart
   UpToStop : (statements : List Statement) → RunPart
   CloseOf : (u : ℕ) → RunPart
   AllCloses : RunPart
@@ -30,7 +30,7 @@ pub data RunPart : Type 0 where
 -- the deck has the files and items of its statements, and its file has the place that is closed
 abbrev pub IsPartIn : RunningDeck → RunPart → Type 0
 IsPartIn deck (VerbOn u statement) = CanPerform deck u statement
-IsPartIn deck (OneStatement statement) = IsStatementIn deck statement
+IsPartIn deck (Single statement) = IsStatementIn deck statement
 IsPartIn deck (UpToStop statements) = All (IsStatementIn deck) statements
 IsPartIn deck (CloseOf u) = u < length deck.files.items
 IsPartIn deck AllCloses = Unit {0}
@@ -45,7 +45,7 @@ pub record CanRun {S : Type 0} (library : Shown S) (part : RunPart) (s : State S
 -- its steps, where it came to its end
 abbrev pub StepsOf : {S : Type 0} → Shown S → RunPart → Point S → List Line → Point S → Type 0
 StepsOf library (VerbOn u statement) = IsStretch library (Perform u statement)
-StepsOf library (OneStatement statement) = IsStretch library statement
+StepsOf library (Single statement) = IsStretch library statement
 StepsOf library (UpToStop statements) = AreStretches library (until_stop statements)
 StepsOf library (CloseOf u) = ClosesAt library u
 StepsOf library AllCloses = ClosesFiles library
@@ -53,7 +53,7 @@ StepsOf library AllCloses = ClosesFiles library
 -- and where it was broken off
 abbrev pub StepsBefore : {S : Type 0} → Shown S → RunPart → Point S → List Line → Point S → Type 0
 StepsBefore library (VerbOn u statement) = AreStretchesInPart library (Perform u statement ∷ [])
-StepsBefore library (OneStatement statement) = AreStretchesInPart library (statement ∷ [])
+StepsBefore library (Single statement) = AreStretchesInPart library (statement ∷ [])
 StepsBefore library (UpToStop statements) = AreStretchesInPart library (until_stop statements)
 StepsBefore library (CloseOf u) = ClosesAtInPart library u
 StepsBefore library AllCloses = ClosesInPart library
@@ -61,7 +61,7 @@ StepsBefore library AllCloses = ClosesInPart library
 -- the most lines that it has
 abbrev pub most_lines : RunningDeck → RunPart → ℕ
 most_lines deck (VerbOn u statement) = 1
-most_lines deck (OneStatement statement) = 1
+most_lines deck (Single statement) = 1
 most_lines deck (UpToStop statements) = length statements
 most_lines deck (CloseOf u) = 1
 most_lines deck AllCloses = length deck.files.items

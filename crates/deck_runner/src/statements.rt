@@ -2,7 +2,7 @@
 ghost use Rattle.std.specs.Prelude.{◌≡◌};
 ghost use Rattle.deck_runner.specs.Steps.{is_stop};
 ghost use Rattle.deck_runner.specs.State.{state};
-ghost use Rattle.deck_runner.specs.Parts.{CanRun, RunsPart, VerbOn, OneStatement, UpToStop};
+ghost use Rattle.deck_runner.specs.Parts.{CanRun, RunsPart, VerbOn, Single, UpToStop};
 
 use crate::held_lines::make_way;
 use crate::run_end::RunEnd;
@@ -51,8 +51,8 @@ impl RunningDeck {
         held: &mut HeldText,
         out: &mut W,
     ) -> Result<RunEnd, Refused>
-        requires { CanRun L.shown (OneStatement statement.now) (state library.old self.old) }
-        ensures { RunsPart L.shown W.contents (OneStatement statement.now)
+        requires { CanRun L.shown (Single statement.now) (state library.old self.old) }
+        ensures { RunsPart L.shown W.contents (Single statement.now)
             (library.old, self.old, held.old, out.old)
             (library.new, self.new, held.new, out.new) result }
     {
