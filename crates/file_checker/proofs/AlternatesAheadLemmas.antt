@@ -1,12 +1,12 @@
 -- Alternate indexes that walks have yet to find.
-use Rattle.std.proofs.Common.{◌≡◌, ℕ, ◌+◌, ◌<◌, Bool, List, length, map, slice_index_or, Result, Ok, Err, IfErr, IsErrAnd, refl, sym, subst, arith}
+use Rattle.std.proofs.Common.{◌≡◌, ℕ, ◌+◌, ◌<◌, Bool, List, length, map, slice_index_or, Result, Ok, Err, IsErrAnd, sym, subst, arith}
 use Rattle.pages.specs.Each.{Each}
 use Rattle.pages.specs.declared.walk_fault.WalkFault.{WalkFault}
-use Rattle.pages.specs.declared.walk_fault.WalkFault.TheVariants.{Memory as NoMemory, At}
 use Rattle.pages.specs.Marks.{Marks, marked_in}
 use Rattle.pages.specs.PageList.{pages_in}
 use Rattle.pages.specs.Refused.{RefusesRightly}
-use Rattle.pages.proofs.RefusedLemmas.{still_unmarked}
+use Rattle.pages.specs.Told.{TellsOfFault}
+use Rattle.pages.proofs.RefusedLemmas.{refuses_more, still_unmarked}
 use Rattle.page_walks.specs.declared.leaf.Leaf.{Leaf}
 use Rattle.page_walks.specs.Spots.{IsLeafThere, entries_at, spots_in}
 use Rattle.page_walks.specs.TreeAhead.{TreeUnmarked}
@@ -18,61 +18,26 @@ use Rattle.key_index.specs.Stored.{alt_bytes}
 use Rattle.open_file.specs.declared.open_file.OpenFile.{OpenFile}
 use Rattle.open_file.specs.Fields.{alternates_of, file_schema}
 use Rattle.open_file.specs.InOrder.{alt_entries}
-use Rattle.file_checker.specs.declared.row_fault.RowFault.{RowFault}
-use Rattle.file_checker.specs.declared.row_fault.RowFault.TheVariants.{Memory as NoRoom, Index}
-use Rattle.file_checker.specs.RowsAhead.{AlternateAhead, RefusesRows}
+use Rattle.file_checker.specs.RowsAhead.{AlternateAhead}
 use Rattle.file_checker.specs.Rows.{rows_in}
 use Rattle.open_file.specs.declared.first_page.Header.{Header}
-use Rattle.file_checker.specs.declared.parts_fault.PartsFault.{PartsFault}
-use Rattle.file_checker.specs.declared.parts_fault.PartsFault.TheVariants.{Memory, Unsound}
-use Rattle.file_checker.specs.Ahead.{AlternatesAhead, StopsRightly}
-use Rattle.file_checker.specs.Later.{ChecksPages, StopsIn, StopsWalk, stop_by_rows, stop_by_walk}
+use Rattle.file_checker.specs.Ahead.{AlternatesAhead}
+use Rattle.file_checker.specs.Later.{ChecksPages, IsMetIn}
 use Rattle.file_checker.specs.Parts.{PagesStand}
 use Rattle.file_checker.proofs.AheadLemmas.{one_tree}
 
 -- ---- why a check stops
 
-pub stops_by_walk : (S T : Type 0) (fault : WalkFault) → (T → S) → RefusesRightly S fault → StopsRightly T (stop_by_walk fault)
-stops_by_walk S T NoMemory f never = tt
-stops_by_walk S T (At what place) f never = λ t. never (f t)
-
-pub stops_by_rows : (S T : Type 0) (fault : RowFault) → (T → S) → RefusesRows S fault → StopsRightly T (stop_by_rows fault)
-stops_by_rows S T NoRoom f never = tt
-stops_by_rows S T (Index place) f never = λ t. never (f t)
-
--- a fault that is handed on
-pub stopped_by_walk : {X : Type 0} (S T : Type 0) (r : Result X PartsFault) (fault : WalkFault) → IsErrAnd r (λ stop. (stop ≡ stop_by_walk fault) × StopsWalk stop) → (T → S) → RefusesRightly S fault
-    → IfErr r (StopsRightly T)
-stopped_by_walk S T (Ok x) fault was f never = tt
-stopped_by_walk S T (Err stop) fault was f never = subst (StopsRightly T) (sym was.0) (stops_by_walk S T fault f never)
-
-pub stopped_by_rows : {X : Type 0} (S T : Type 0) (r : Result X PartsFault) (fault : RowFault) → IsErrAnd r (λ stop. (stop ≡ stop_by_rows fault) × StopsWalk stop) → (T → S) → RefusesRows S fault → IfErr r (StopsRightly T)
-stopped_by_rows S T (Ok x) fault was f never = tt
-stopped_by_rows S T (Err stop) fault was f never = subst (StopsRightly T) (sym was.0) (stops_by_rows S T fault f never)
-
 -- where a walk stops, a check of the pages does
 module _ (header : Header) (list : List (List ℕ)) where
-  pub checks_stopped : (T : Type 0) (r : Result Unit PartsFault) (stop : PartsFault) → IsErrAnd r (λ e. e ≡ stop) → StopsIn header list stop → (PagesStand header list → T) → StopsRightly T stop → ChecksPages header list r
-  checks_stopped T (Ok x) stop was met f never = absurd was
-  checks_stopped T (Err e) stop was met f never = record {
-    stand = tt;
-    stop = subst (StopsIn header list) (sym was) met;
-    refused = subst (StopsRightly (PagesStand header list)) (sym was) (more stop never);
-  }
-    where
-      more : (stop : PartsFault) → StopsRightly T stop → StopsRightly (PagesStand header list) stop
-      more Memory h = tt
-      more (Unsound reason place) h = λ stands. h (f stands)
-
-  pub checks_by_walk : (S : Type 0) (r : Result Unit PartsFault) (fault : WalkFault) → IsErrAnd r (λ stop. (stop ≡ stop_by_walk fault) × StopsWalk stop) → (PagesStand header list → S) → RefusesRightly S fault
-      → StopsIn header list (stop_by_walk fault) → ChecksPages header list r
+  pub checks_by_walk : (S : Type 0) (r : Result Unit WalkFault) (fault : WalkFault) → IsErrAnd r (λ e. e ≡ fault) → (PagesStand header list → S) → RefusesRightly S fault
+      → TellsOfFault (IsMetIn header list) fault → ChecksPages header list r
   checks_by_walk S (Ok x) fault was f never told = absurd was
-  checks_by_walk S (Err stop) fault was f never told = checks_stopped S (Err stop) stop refl (subst (StopsIn header list) (sym was.0) told) f (subst (StopsRightly S) (sym was.0) (stops_by_walk S S fault (λ s. s) never))
-
-  pub checks_by_rows : (S : Type 0) (r : Result Unit PartsFault) (fault : RowFault) → IsErrAnd r (λ stop. (stop ≡ stop_by_rows fault) × StopsWalk stop) → (PagesStand header list → S) → RefusesRows S fault
-      → StopsIn header list (stop_by_rows fault) → ChecksPages header list r
-  checks_by_rows S (Ok x) fault was f never told = absurd was
-  checks_by_rows S (Err stop) fault was f never told = checks_stopped S (Err stop) stop refl (subst (StopsIn header list) (sym was.0) told) f (subst (StopsRightly S) (sym was.0) (stops_by_rows S S fault (λ s. s) never))
+  checks_by_walk S (Err e) fault was f never told = record {
+    stand = tt;
+    stop = subst (TellsOfFault (IsMetIn header list)) (sym was) told;
+    refused = subst (RefusesRightly (PagesStand header list)) (sym was) (refuses_more S (PagesStand header list) fault f never);
+  }
 
 -- ---- one index after another
 

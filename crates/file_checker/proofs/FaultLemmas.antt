@@ -6,14 +6,15 @@ use Rattle.std.proofs.lemmas.Bool.{cases_Bool, lt-ltb}
 use Rattle.std.proofs.lemmas.List.Quantifiers.{position-Some}
 use Rattle.page_alloc.specs.Chain.{is_among}
 use Rattle.pages.specs.declared.fault_place.FaultPlace.{FaultPlace}
-use Rattle.pages.specs.declared.page_fault.PageFault.{PageFault}
-use Rattle.pages.specs.declared.page_fault.PageFault.TheVariants.{Shared as SharedPage, Node as WrongNode, Order as WrongOrder, Chain, Count}
+use Rattle.pages.specs.declared.damage.Damage.{Damage}
+use Rattle.pages.specs.declared.damage.Damage.TheVariants.{Shared, Node, Order, Heap, Index, Lost}
 use Rattle.pages.specs.declared.walk_fault.WalkFault.{WalkFault}
-use Rattle.pages.specs.declared.walk_fault.WalkFault.TheVariants.{Memory as NoMemory, At}
+use Rattle.pages.specs.declared.walk_fault.WalkFault.TheVariants.{Memory, At}
 use Rattle.pages.specs.Marks.{IsUnmarked, Marks, marked_in}
 use Rattle.pages.specs.PageList.{pages_in}
 use Rattle.pages.specs.Told.{TellsOfFault}
 use Rattle.pages.proofs.PartLemmas.{low_or_not}
+use Rattle.pages.proofs.ToldLemmas.{tells_more}
 use Rattle.page_walks.specs.declared.leaf.Leaf.{Leaf}
 use Rattle.page_walks.specs.FreeWalk.{FreeWalked}
 use Rattle.page_walks.specs.TreeFaults.{IsTreeFault, LeadsDown, MarksBelow, root_place}
@@ -28,16 +29,11 @@ use Rattle.open_file.specs.Fields.{heap_of, prime_index_of}
 use Rattle.open_file.specs.Headers.{IsOpenedBy}
 use Rattle.open_file.specs.declared.open_file.OpenFile.{OpenFile}
 use Rattle.open_file.proofs.OrderLemmas.{either}
-use Rattle.file_checker.specs.declared.row_fault.RowFault.{RowFault}
-use Rattle.file_checker.specs.declared.row_fault.RowFault.TheVariants.{Memory as NoRoom, Index as WrongIndex}
 use Rattle.file_checker.specs.RowsAhead.{PrimesLead}
 use Rattle.file_checker.specs.RowFaults.{IsAlternateFault, TellsOfRows}
-use Rattle.file_checker.specs.declared.verdict.Reason.{Reason}
-use Rattle.file_checker.specs.declared.parts_fault.PartsFault.{PartsFault}
-use Rattle.file_checker.specs.declared.parts_fault.PartsFault.TheVariants.{Memory, Unsound}
-use Rattle.file_checker.specs.Faults.{AreLeavesOf, HasIndexFault, HasWalkFault, IsAlternateAt, IsAlternateTreeFault}
+use Rattle.file_checker.specs.Faults.{AreLeavesOf, HasIndexFault, HasWalkFault, IsAlternateAt, IsAlternateTreeFault, IsWalkFault}
 use Rattle.file_checker.specs.Faults.{IsBeforeAlternate, IsBeforeAlternates, IsBeforeHeap, IsBeforePrime, IsTreeReached}
-use Rattle.file_checker.specs.Later.{IsMarkedBefore, IsMetIn, StopsIn, StopsWalk, TellsOfIndexes, reason_by_walk, stop_by_rows, stop_by_walk}
+use Rattle.file_checker.specs.Later.{IsMarkedBefore, IsMetIn, TellsOfAlternates, TellsOfIndexes}
 use Rattle.file_checker.specs.Lost.{first_unmarked}
 
 -- ---- pages without a mark
@@ -109,44 +105,51 @@ module _ (header : Header) (list : List (List ℕ)) (none : ℕ → Bool) (clear
 -- ---- what is told of a file
 
 module _ (header : Header) (list : List (List ℕ)) where
-  by_fault : (what : PageFault) (place : FaultPlace) → HasWalkFault header list what place → IsMetIn header list (reason_by_walk what) place
-  by_fault SharedPage place h = h
-  by_fault WrongNode place h = h
-  by_fault WrongOrder place h = h
-  by_fault Chain place h = h
-  by_fault Count place h = inl h
+  -- no walk tells of a page that nothing reaches
+  never_lost : (opened : OpenFile) (place : FaultPlace) → IsWalkFault header opened list Lost place → ⊥
+  never_lost opened place (inl free) = free.wrong.3
+  never_lost opened place (inr (inl heap)) = heap.wrong
+  never_lost opened place (inr (inr (inl prime))) = prime.wrong
+  never_lost opened place (inr (inr (inr alternate))) = alternate.wrong.wrong
 
-  pub tells_walk : (P : PageFault → FaultPlace → Type 0) (fault : WalkFault) → ((what : PageFault) (place : FaultPlace) → P what place → HasWalkFault header list what place) → TellsOfFault P fault
-      → StopsIn header list (stop_by_walk fault)
-  tells_walk P NoMemory f h = tt
-  tells_walk P (At what place) f h = by_fault what place (f what place h)
+  by_fault : (what : Damage) (place : FaultPlace) → HasWalkFault header list what place → IsMetIn header list what place
+  by_fault Shared place h = h
+  by_fault Node place h = h
+  by_fault Order place h = h
+  by_fault Heap place h = h
+  by_fault Index place h = inl h
+  by_fault Lost place h = absurd (never_lost h.opened place h.wrong)
 
-  pub tells_rows : (P : FaultPlace → Type 0) (fault : RowFault) → ((place : FaultPlace) → P place → HasIndexFault header list place) → TellsOfRows P fault → StopsIn header list (stop_by_rows fault)
-  tells_rows P NoRoom f h = tt
-  tells_rows P (WrongIndex place) f h = inr (f place h)
+  pub tells_walk : (P : Damage → FaultPlace → Type 0) (fault : WalkFault) → ((what : Damage) (place : FaultPlace) → P what place → HasWalkFault header list what place) → TellsOfFault P fault
+      → TellsOfFault (IsMetIn header list) fault
+  tells_walk P fault f h = tells_more P (IsMetIn header list) fault (λ what place p. by_fault what place (f what place p)) h
+
+  pub tells_rows : (P : FaultPlace → Type 0) (fault : WalkFault) → ((place : FaultPlace) → P place → HasIndexFault header list place) → TellsOfRows P fault → TellsOfFault (IsMetIn header list) fault
+  tells_rows P Memory f h = tt
+  tells_rows P (At what place) f h = subst (λ (d : Damage). IsMetIn header list d place) (sym h.0) (inr (f place h.1))
 
   -- what is told of alternate indexes
   pub tells_indexes : (opened : OpenFile) → IsOpenedBy header opened → (primes : List Leaf) → AreLeavesOf (prime_index_of opened).tree list primes → (marks : List Bool) → length marks ≡ length list
-      → ((n : ℕ) → marked_in marks n ≡ true → IsBeforeAlternates header opened list n) → (stop : PartsFault) → TellsOfIndexes opened list primes marks stop → StopsIn header list stop
+      → ((n : ℕ) → marked_in marks n ≡ true → IsBeforeAlternates header opened list n) → (fault : WalkFault) → TellsOfIndexes opened list primes marks fault → TellsOfFault (IsMetIn header list) fault
   tells_indexes opened by primes are marks long before Memory told = tt
-  tells_indexes opened by primes are marks long before (Unsound reason place) (inr h) =
-      subst (λ (r : Reason). IsMetIn header list r place) (sym h.0) (inr (record { opened = opened; by_header = by; wrong = inr (record { primes = primes; are = are; wrong = h.1 }) }))
-  tells_indexes opened by primes are marks long before (Unsound reason place) (inl h) =
-      subst (λ (r : Reason). IsMetIn header list r place) (sym h.1) (by_fault h.0 place (record { opened = opened; by_header = by; wrong = inr (inr (inr more)) }))
+  tells_indexes opened by primes are marks long before (At what place) (inr h) =
+      subst (λ (d : Damage). IsMetIn header list d place) (sym h.0) (inr (record { opened = opened; by_header = by; wrong = inr (record { primes = primes; are = are; wrong = h.1 }) }))
+  tells_indexes opened by primes are marks long before (At what place) (inl h) =
+      by_fault what place (record { opened = opened; by_header = by; wrong = inr (inr (inr more)) })
     where
       reached : (j n : ℕ) → IsMarkedBefore opened list marks j n → IsBeforeAlternate header opened list j n
       reached j n (inl on) = inl (before n on)
       reached j n (inr at) = inr at
 
-      more : IsAlternateTreeFault (IsBeforeAlternate header opened list) (length list) opened list h.0 place
+      more : IsAlternateTreeFault (IsBeforeAlternate header opened list) (length list) opened list what place
       more = record {
-        j = h.2.j;
-        index = h.2.index;
-        at = h.2.at;
+        j = h.j;
+        index = h.index;
+        at = h.at;
         wrong = record {
-          marks = h.2.wrong.marks;
-          are = record { many = h.2.wrong.are.many ∙ long; each = λ n on. reached h.2.j n (h.2.wrong.are.each n on) };
-          wrong = h.2.wrong.wrong;
+          marks = h.wrong.marks;
+          are = record { many = h.wrong.are.many ∙ long; each = λ n on. reached h.j n (h.wrong.are.each n on) };
+          wrong = h.wrong.wrong;
         };
       }
 
@@ -158,28 +161,28 @@ module _ (opened : OpenFile) (list : List (List ℕ)) (primes : List Leaf) (mark
   ReachedSoFar now = (n : ℕ) → marked_in now n ≡ true → IsMarkedBefore opened list marks j n
 
   tells_tree : (now : List Bool) → length now ≡ length marks → ReachedSoFar now → (fault : WalkFault) → TellsOfFault (IsTreeFault index.tree list now) fault
-      → TellsOfIndexes opened list primes marks (stop_by_walk fault)
-  tells_tree now long so NoMemory h = tt
+      → TellsOfIndexes opened list primes marks fault
+  tells_tree now long so Memory h = tt
   tells_tree now long so (At what place) h =
-      inl (what, refl, record { j = j; index = index; at = at; wrong = record { marks = now; are = record { many = long; each = so }; wrong = h } })
+      inl (record { j = j; index = index; at = at; wrong = record { marks = now; are = record { many = long; each = so }; wrong = h } })
 
   -- its tree does not stand
-  pub told_of_tree : {X : Type 0} (now : List Bool) → length now ≡ length marks → ReachedSoFar now → (r : Result X PartsFault) (fault : WalkFault) → IsErrAnd r (λ stop. (stop ≡ stop_by_walk fault) × StopsWalk stop)
-      → TellsOfFault (IsTreeFault index.tree list now) fault → IfErr r (λ stop. PrimesLead opened list primes → TellsOfIndexes opened list primes marks stop)
+  pub told_of_tree : {X : Type 0} (now : List Bool) → length now ≡ length marks → ReachedSoFar now → (r : Result X WalkFault) (fault : WalkFault) → IsErrAnd r (λ e. e ≡ fault)
+      → TellsOfFault (IsTreeFault index.tree list now) fault → IfErr r (TellsOfAlternates opened list primes marks)
   told_of_tree now long so (Ok x) fault was h = tt
-  told_of_tree now long so (Err stop) fault was h = λ lead. subst (TellsOfIndexes opened list primes marks) (sym was.0) (tells_tree now long so fault h)
+  told_of_tree now long so (Err stop) fault was h = λ lead. subst (TellsOfIndexes opened list primes marks) (sym was) (tells_tree now long so fault h)
 
-  tells_entries : (leaves : List Leaf) → AreLeavesOf index.tree list leaves → (fault : RowFault) → TellsOfRows (IsAlternateFault opened list primes index leaves) fault
-      → TellsOfIndexes opened list primes marks (stop_by_rows fault)
-  tells_entries leaves are NoRoom h = tt
-  tells_entries leaves are (WrongIndex place) h = inr (refl, record { j = j; index = index; at = at; leaves = leaves; are = are; wrong = h })
+  tells_entries : (leaves : List Leaf) → AreLeavesOf index.tree list leaves → (fault : WalkFault) → TellsOfRows (IsAlternateFault opened list primes index leaves) fault
+      → TellsOfIndexes opened list primes marks fault
+  tells_entries leaves are Memory h = tt
+  tells_entries leaves are (At what place) h = inr (h.0, record { j = j; index = index; at = at; leaves = leaves; are = are; wrong = h.1 })
 
   -- its entries are not those of the rows
-  pub told_of_entries : {X : Type 0} (leaves : List Leaf) → AreLeavesOf index.tree list leaves → (r : Result X PartsFault) (fault : RowFault) → IsErrAnd r (λ stop. (stop ≡ stop_by_rows fault) × StopsWalk stop)
+  pub told_of_entries : {X : Type 0} (leaves : List Leaf) → AreLeavesOf index.tree list leaves → (r : Result X WalkFault) (fault : WalkFault) → IsErrAnd r (λ e. e ≡ fault)
       → (PrimesLead opened list primes → TellsOfRows (IsAlternateFault opened list primes index leaves) fault)
-      → IfErr r (λ stop. PrimesLead opened list primes → TellsOfIndexes opened list primes marks stop)
+      → IfErr r (TellsOfAlternates opened list primes marks)
   told_of_entries leaves are (Ok x) fault was h = tt
-  told_of_entries leaves are (Err stop) fault was h = λ lead. subst (TellsOfIndexes opened list primes marks) (sym was.0) (tells_entries leaves are fault (h lead))
+  told_of_entries leaves are (Err stop) fault was h = λ lead. subst (TellsOfIndexes opened list primes marks) (sym was) (tells_entries leaves are fault (h lead))
 
   -- what was reached with it
   pub reached_next : (now after : List Bool) → length after ≡ length now → ReachedSoFar now → MarksBelow (tree_shape index.tree) list (root_place index.tree) now after

@@ -37,30 +37,31 @@ use Rattle.open_file.proofs.ByKeyLemmas.{in_order_each}
 use Rattle.open_file.proofs.OrderLemmas.{either}
 use Rattle.open_file.proofs.PartsLemmas.{from_eq}
 use Rattle.bplus_tree.specs.Fields.{tree_shape}
-use Rattle.file_checker.specs.declared.row_fault.RowFault.{RowFault}
-use Rattle.file_checker.specs.declared.row_fault.RowFault.TheVariants.{Memory, Index}
+use Rattle.pages.specs.declared.walk_fault.WalkFault.{WalkFault}
+use Rattle.pages.specs.declared.walk_fault.WalkFault.TheVariants.{Memory, At}
+use Rattle.pages.specs.Refused.{RefusesRightly}
 use Rattle.file_checker.specs.Rows.{EntriesRise, place_at, places_in, prime_at, row_at, rows_in}
 use Rattle.file_checker.specs.Leading.{HasEntry, IsEntryOf, PageHasEntries, PagesHaveEntries, stored_row}
 use Rattle.file_checker.specs.Search.{FindsEntry, value_at}
-use Rattle.file_checker.specs.RowsAhead.{AlternateAhead, HasItsRow, HasRowAhead, LeadsAhead, PrimesLead, RefusesRows, RowsAhead}
+use Rattle.file_checker.specs.RowsAhead.{AlternateAhead, HasItsRow, HasRowAhead, LeadsAhead, PrimesLead, RowsAhead}
 use Rattle.file_checker.proofs.SearchLemmas.{spots_there}
 use Rattle.file_checker.proofs.SlotLemmas.{no_page, own_slot}
 
 -- ---- why a check gives up
 
-pub refuses_rows : {X : Type 0} (S : Type 0) (r : Result X RowFault) → OnErr r (S → ⊥) → IfErr r (RefusesRows S)
+pub refuses_rows : {X : Type 0} (S : Type 0) (r : Result X WalkFault) → OnErr r (S → ⊥) → IfErr r (RefusesRightly S)
 refuses_rows S (Ok x) never = tt
 refuses_rows S (Err Memory) never = tt
-refuses_rows S (Err (Index place)) never = never
+refuses_rows S (Err (At damage place)) never = never
 
 -- a fault is handed on
-pub on_err : {X : Type 0} (P : Type 0) (r : Result X RowFault) → P → OnErr r P
+pub on_err : {X : Type 0} (P : Type 0) (r : Result X WalkFault) → P → OnErr r P
 on_err P (Ok x) p = tt
 on_err P (Err fault) p = p
 
-pub memory_handed_on : {X : Type 0} (S : Type 0) (r : Result X RowFault) (fault : RowFault) → IsErrAnd r (λ e. e ≡ fault) → fault ≡ Memory → IfErr r (RefusesRows S)
+pub memory_handed_on : {X : Type 0} (S : Type 0) (r : Result X WalkFault) (fault : WalkFault) → IsErrAnd r (λ e. e ≡ fault) → fault ≡ Memory → IfErr r (RefusesRightly S)
 memory_handed_on S (Ok x) fault was is = tt
-memory_handed_on S (Err e) fault was is = subst (RefusesRows S) (sym (was ∙ is)) tt
+memory_handed_on S (Err e) fault was is = subst (RefusesRightly S) (sym (was ∙ is)) tt
 
 pub never : IsTrue false → ⊥
 never h = false≢true h

@@ -7,6 +7,9 @@ use Rattle.pages.specs.Marks.{marked_in}
 use Rattle.pages.specs.PageList.{pages_in}
 use Rattle.pages.specs.declared.fault_place.FaultPlace.{FaultPlace}
 use Rattle.pages.specs.declared.fault_place.FaultPlace.TheVariants.{Entry}
+use Rattle.pages.specs.declared.damage.Damage.TheVariants.{Index}
+use Rattle.pages.specs.declared.walk_fault.WalkFault.{WalkFault}
+use Rattle.pages.specs.declared.walk_fault.WalkFault.TheVariants.{Memory, At}
 use Rattle.pages.proofs.PartLemmas.{low_or_not}
 use Rattle.record_layout.specs.Schema.{prime_of}
 use Rattle.indexed_file.specs.File.{Row}
@@ -25,8 +28,6 @@ use Rattle.open_file.specs.declared.open_file.OpenFile.{OpenFile}
 use Rattle.open_file.proofs.OrderLemmas.{either}
 use Rattle.open_file.proofs.PartsLemmas.{from_eq}
 use Rattle.bplus_tree.specs.Fields.{tree_shape}
-use Rattle.file_checker.specs.declared.row_fault.RowFault.{RowFault}
-use Rattle.file_checker.specs.declared.row_fault.RowFault.TheVariants.{Memory, Index}
 use Rattle.file_checker.specs.Rows.{EntriesRise, place_at, row_at}
 use Rattle.file_checker.specs.Leading.{HasEntry, LeadsToRow}
 use Rattle.file_checker.specs.Search.{IsPrimeLeaf}
@@ -40,30 +41,30 @@ use Rattle.file_checker.proofs.SpotLemmas.{one_left, one_right}
 -- ---- why a check gives up
 
 -- a fault that is handed on
-pub rows_on : {X : Type 0} (P : RowFault → Type 0) (r : Result X RowFault) (fault : RowFault) → IsErrAnd r (λ e. e ≡ fault) → P fault → IfErr r P
+pub rows_on : {X : Type 0} (P : WalkFault → Type 0) (r : Result X WalkFault) (fault : WalkFault) → IsErrAnd r (λ e. e ≡ fault) → P fault → IfErr r P
 rows_on P (Ok x) fault was h = tt
 rows_on P (Err e) fault was h = subst P (sym was) h
 
-pub never_ok : {X : Type 0} (P : Type 0) (r : Result X RowFault) (fault : RowFault) → IsErrAnd r (λ e. e ≡ fault) → OnOk r P
+pub never_ok : {X : Type 0} (P : Type 0) (r : Result X WalkFault) (fault : WalkFault) → IsErrAnd r (λ e. e ≡ fault) → OnOk r P
 never_ok P (Ok x) fault was = absurd was
 never_ok P (Err e) fault was = tt
 
 -- a check that hands on the fault of another one
-pub handed_on : {Stands Ahead : Type 0} {IsWrong : FaultPlace → Type 0} (read : PagesRead) (r : Result Unit RowFault) (fault : RowFault) → IsErrAnd r (λ e. e ≡ fault)
+pub handed_on : {Stands Ahead : Type 0} {IsWrong : FaultPlace → Type 0} (read : PagesRead) (r : Result Unit WalkFault) (fault : WalkFault) → IsErrAnd r (λ e. e ≡ fault)
     → (HasLeaders read → Ahead → ⊥) → (HasLeaders read → TellsOfRows IsWrong fault) → Judges read Stands Ahead IsWrong r
 handed_on read (Ok x) fault was never told = absurd was
 handed_on {IsWrong = IsWrong} read (Err e) fault was never told = record { stands = tt; refused = never; told = λ lead. subst (TellsOfRows IsWrong) (sym was) (told lead) }
 
 module _ (P Q : FaultPlace → Type 0) where
   -- what is told more exactly is told
-  pub rows_more : (fault : RowFault) → ((place : FaultPlace) → P place → Q place) → TellsOfRows P fault → TellsOfRows Q fault
+  pub rows_more : (fault : WalkFault) → ((place : FaultPlace) → P place → Q place) → TellsOfRows P fault → TellsOfRows Q fault
   rows_more Memory f h = tt
-  rows_more (Index place) f h = f place h
+  rows_more (At damage place) f h = (h.0, f place h.1)
 
 -- ---- entries
 
-pub entry_told : (spots : List LeafSpot) (P : LeafSpot → Type 0) (spot : LeafSpot) (fault : RowFault) → fault ≡ Index (Entry spot.page spot.place) → IsOneOf spots spot → (P spot → ⊥) → TellsOfRows (IsEntryFault spots P) fault
-entry_told spots P spot fault is one wrong = subst (TellsOfRows (IsEntryFault spots P)) (sym is) (record { spot = spot; one = one; told = refl; wrong = wrong })
+pub entry_told : (spots : List LeafSpot) (P : LeafSpot → Type 0) (spot : LeafSpot) (fault : WalkFault) → fault ≡ At Index (Entry spot.page spot.place) → IsOneOf spots spot → (P spot → ⊥) → TellsOfRows (IsEntryFault spots P) fault
+entry_told spots P spot fault is one wrong = subst (TellsOfRows (IsEntryFault spots P)) (sym is) (refl, record { spot = spot; one = one; told = refl; wrong = wrong })
 
 -- among more places, and where less holds
 pub entry_more : (spots more : List LeafSpot) (P Q : LeafSpot → Type 0) → ((spot : LeafSpot) → IsOneOf spots spot → IsOneOf more spot) → ((spot : LeafSpot) → Q spot → P spot)
@@ -90,16 +91,19 @@ module _ (opened : OpenFile) (list : List (List ℕ)) (primes : List LeafSpot) w
       nothing (Some bytes) none some = cc none
 
   -- a slot of a page that has no entry
-  pub slot_told : (slot : Place) (fault : RowFault) → fault ≡ Index (Entry slot.page slot.slot) → slot.slot < room (slot_shape (heap_of opened)) → (HasEntry opened list primes slot → ⊥)
+  pub slot_told : (slot : Place) (fault : WalkFault) → fault ≡ At Index (Entry slot.page slot.slot) → slot.slot < room (slot_shape (heap_of opened)) → (HasEntry opened list primes slot → ⊥)
       → TellsOfRows (HasNoEntry opened list primes (slot.page ∷ [])) fault
-  slot_told slot fault is within wrong = subst (TellsOfRows (HasNoEntry opened list primes (slot.page ∷ []))) (sym is) (record {
-    slot = slot;
-    page = here;
-    within = within;
-    told = refl;
-    used = used_or_none slot wrong (slot_off (heap_of opened) (pages_in list) slot) refl;
-    none = λ some. wrong (λ used. some);
-  })
+  slot_told slot fault is within wrong = subst (TellsOfRows (HasNoEntry opened list primes (slot.page ∷ []))) (sym is) (
+    refl,
+    record {
+      slot = slot;
+      page = here;
+      within = within;
+      told = refl;
+      used = used_or_none slot wrong (slot_off (heap_of opened) (pages_in list) slot) refl;
+      none = λ some. wrong (λ used. some);
+    },
+  )
     where
       here : is_in_list (slot.page ∷ []) slot.page ≡ true
       here = rw (eq-eqb slot.page slot.page refl) refl

@@ -21,11 +21,10 @@ use Rattle.open_file.proofs.ClosedLemmas.{is_opened, opened_by, opened_stands, s
 use Rattle.open_file.specs.Stands.{Stands}
 use Rattle.shelf_library.specs.ClosedFile.{IsAcceptedBy, StandsIn, live_in, free_in}
 use Rattle.shelf_library.proofs.PagesLemmas.{AreAlike, same_chain, same_live}
-use Rattle.file_checker.specs.declared.verdict.Reason.{Reason}
-use Rattle.file_checker.specs.declared.verdict.Reason.TheVariants.{Short, Gate, Header as NoHeader, Shared, Node, Order, Heap, Index, Lost}
-use Rattle.file_checker.specs.declared.finding.Finding.{Finding}
-use Rattle.file_checker.specs.declared.finding.Finding.TheVariants.{Sound as FoundSound, Unsound as FoundUnsound}
-use Rattle.file_checker.specs.Findings.{verdict_of}
+use Rattle.pages.specs.declared.damage.Damage.{Damage}
+use Rattle.pages.specs.declared.damage.Damage.TheVariants.{Shared as SharedPage, Node as WrongNode, Order as WrongOrder, Heap as BrokenHeap, Index as WrongIndex, Lost as LostPage}
+use Rattle.file_checker.specs.Reasons.{reason_of}
+use Rattle.file_checker.specs.declared.verdict.Reason.TheVariants.{Short}
 use Rattle.file_checker.specs.declared.verdict.Verdict.{Verdict}
 use Rattle.file_checker.specs.declared.verdict.Verdict.TheVariants.{Unsound}
 use Rattle.file_checker.specs.Bytes.{HasLess, HasGiven, HasGivenLess, HasGivenPages, AreRead, AreFirstPages, ReadingBreaksOff, bytes_of_pages}
@@ -33,7 +32,7 @@ use Rattle.file_checker.specs.Later.{IsMetIn}
 use Rattle.file_checker.specs.Parts.{PagesStand}
 use Rattle.file_checker.specs.declared.verdict.CheckFault.{CheckFault}
 use Rattle.file_checker.specs.declared.verdict.CheckFault.TheVariants.{Input, Memory}
-use Rattle.file_checker.specs.Sound.{IsSound, IsUnsound, IsLong, IsShort, IsUnsoundAt, HasPages, HoldsAt, CheckGivesUp, ExaminesBehind, IsRight, IsRightFinding, counted_in, asked_in}
+use Rattle.file_checker.specs.Sound.{IsSound, IsUnsound, IsLong, IsShort, IsUnsoundAt, HasPages, HoldsAt, CheckGivesUp, ChecksBehind, counted_in, asked_in}
 use Rattle.file_checker.proofs.ReadLemmas.{consumes_on, less_given, pages_long}
 
 -- what holds of the bytes that are known, if they are
@@ -43,22 +42,13 @@ of_known (Some bytes) P f = f bytes refl
 
 -- a fault is told as it was met, and nothing else
 pub no_verdict : {X : Type 0} {first : List ℕ} {Right : List ℕ → X → Type 0} {verdict : X → Verdict} {before after : Option (List ℕ)} (r : Result X CheckFault) (fault : CheckFault) → IsErrAnd r (λ e. e ≡ fault)
-    → ((bytes : List ℕ) → Consumes (Some bytes) before first → CheckGivesUp bytes after fault) → ExaminesBehind first Right verdict before after r
+    → ((bytes : List ℕ) → Consumes (Some bytes) before first → CheckGivesUp bytes after fault) → ChecksBehind first Right verdict before after r
 no_verdict (Ok x) fault is up = absurd is
 no_verdict {after = after} (Err e) fault is up = record {
   right = λ bytes came. tt;
   read = λ bytes came. tt;
   fault = λ bytes came. subst (CheckGivesUp bytes after) (sym is) (up bytes came);
 }
-
--- a finding that is right tells a verdict that is
-pub verdict_right : (bytes : List ℕ) (finding : Finding) → IsRightFinding bytes finding → IsRight bytes (verdict_of finding)
-verdict_right bytes (FoundSound records pages) sound = sound
-verdict_right bytes (FoundUnsound reason place) h = ((place, h.0), h.1)
-
-pub some_right : (known : Option (List ℕ)) (finding : Finding) (verdict : Verdict) → verdict ≡ verdict_of finding → IfSome known (λ bytes. IsRightFinding bytes finding) → IfSome known (λ bytes. IsRight bytes verdict)
-some_right None finding verdict is right = tt
-some_right (Some bytes) finding verdict is right = subst (IsRight bytes) (sym is) (verdict_right bytes finding right)
 
 -- ---- the first page
 
@@ -151,29 +141,24 @@ module _ (bytes first : List ℕ) (after end : Option (List ℕ)) (count : ℕ) 
 
 -- ---- a file that is accepted
 
--- it is no want of bytes
-pub not_short : (header : Header) (list : List (List ℕ)) (reason : Reason) (place : FaultPlace) → IsMetIn header list reason place → Unsound reason ≡ Unsound Short → ⊥
-not_short header list Short place met is = met
-not_short header list Gate place met is = met
-not_short header list NoHeader place met is = met
-not_short header list Shared place met is = cc is
-not_short header list Node place met is = cc is
-not_short header list Order place met is = cc is
-not_short header list Heap place met is = cc is
-not_short header list Index place met is = cc is
-not_short header list Lost place met is = cc is
+-- no damage is told as want of bytes
+pub not_short : (damage : Damage) (place : FaultPlace) → Unsound (reason_of damage) place ≡ Unsound Short TheFile → ⊥
+not_short SharedPage place is = cc is
+not_short WrongNode place is = cc is
+not_short WrongOrder place is = cc is
+not_short BrokenHeap place is = cc is
+not_short WrongIndex place is = cc is
+not_short LostPage place is = cc is
 
--- what the reason says of the pages, it says of the bytes
-pub shown : (bytes : List ℕ) (header : Header) (list : List (List ℕ)) (reason : Reason) (place : FaultPlace) → HasPages bytes header list → IsMetIn header list reason place → HoldsAt bytes reason place
-shown bytes header list Short place all met = absurd met
-shown bytes header list Gate place all met = absurd met
-shown bytes header list NoHeader place all met = absurd met
-shown bytes header list Shared place all met = (header, list, all, met)
-shown bytes header list Node place all met = (header, list, all, met)
-shown bytes header list Order place all met = (header, list, all, met)
-shown bytes header list Heap place all met = (header, list, all, met)
-shown bytes header list Index place all met = (header, list, all, met)
-shown bytes header list Lost place all met = (header, list, all, met)
+-- what is wrong with the pages is the reason by which it is told
+pub shown : (bytes : List ℕ) (header : Header) (list : List (List ℕ)) (damage : Damage) (place : FaultPlace) → HasPages bytes header list → IsMetIn header list damage place
+    → HoldsAt bytes (reason_of damage) place
+shown bytes header list SharedPage place all met = (header, list, all, met)
+shown bytes header list WrongNode place all met = (header, list, all, met)
+shown bytes header list WrongOrder place all met = (header, list, all, met)
+shown bytes header list BrokenHeap place all met = (header, list, all, met)
+shown bytes header list WrongIndex place all met = (header, list, all, met)
+shown bytes header list LostPage place all met = (header, list, all, met)
 
 module _ (bytes first : List ℕ) (header : Header) (page : page_of_bytes bytes 0 ≡ first) (is : IsFirstPage header first) where
   pub too_few : HasLess (4096 * header.pages) (Some bytes) → IsUnsoundAt TheFile bytes Short

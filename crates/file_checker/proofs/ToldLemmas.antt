@@ -19,7 +19,7 @@ sound_is_told bytes records pages (Sound many counted) s told =
     let first : many ≡ records = a.0 ∙ ap (λ (h : Header). h.records) same ∙ sym b.0 in
     let second : counted ≡ pages = a.1 ∙ ap (λ (h : Header). h.pages) same ∙ sym b.1 in
     λ i. Sound (first i) (second i)
-sound_is_told bytes records pages (Unsound reason) s told = absurd (told.1 records pages s)
+sound_is_told bytes records pages (Unsound reason place) s told = absurd (told.1 records pages s)
 
 pub closed_is_told : ClosedIsToldSound
 closed_is_told schema file bytes verdict closed told =

@@ -15,9 +15,9 @@ use Rattle.file_checker.specs.declared.verdict.Reason.TheVariants.{Short}
 use Rattle.file_checker.specs.declared.first_look.FirstLook.{FirstLook}
 use Rattle.file_checker.specs.declared.first_look.FirstLook.TheVariants.{Refused, Accepted}
 use Rattle.file_checker.specs.FirstLook.{IsFirstLook, IsLookAt}
-use Rattle.file_checker.specs.Sound.{HasPages, IsRightFinding, IsShort, IsUnsoundAt}
-use Rattle.file_checker.specs.UnitExamining.{ExaminesUnit, IsUnitFault}
-use Rattle.file_checker.specs.declared.finding.Finding.{Finding}
+use Rattle.file_checker.specs.Sound.{HasPages, IsRight, IsShort, IsUnsoundAt}
+use Rattle.file_checker.specs.UnitChecking.{ChecksUnit, IsUnitFault}
+use Rattle.file_checker.specs.declared.verdict.Verdict.{Verdict}
 use Rattle.file_checker.proofs.SoundLemmas.{unsound_by_length}
 
 pub only_then : (a b c : ShelfState) → OnlyAnswers a b → OnlyAnswers b c → OnlyAnswers a c
@@ -80,14 +80,14 @@ module _ {H : Type 0} (state : H → ShelfState) (count : H → ℕ) (unit : ℕ
   fault_on fault (inl memory) = inl memory
   fault_on fault (inr device) = inr (device.0, (let rose = device.1 in omega (arith, more, rose)))
 
-  pub examines_on : (r : Result Finding Fault) → ExaminesUnit state count unit b c r → ExaminesUnit state count unit a c r
-  examines_on (Ok finding) e = record {
-    right = λ honest. subst (λ (file : DeviceFile). IsRightFinding (content file) finding) (same_file (state a) (state b) unit only) (e.right honest);
+  pub checks_on : (r : Result Verdict Fault) → ChecksUnit state count unit b c r → ChecksUnit state count unit a c r
+  checks_on (Ok finding) e = record {
+    right = λ honest. subst (λ (file : DeviceFile). IsRight (content file) finding) (same_file (state a) (state b) unit only) (e.right honest);
     only = only_then (state a) (state b) (state c) only e.only;
     no_fewer = (let rest = e.no_fewer in omega (arith, more, rest));
     fault = tt;
   }
-  examines_on (Err fault) e = record {
+  checks_on (Err fault) e = record {
     right = tt;
     only = only_then (state a) (state b) (state c) only e.only;
     no_fewer = (let rest = e.no_fewer in omega (arith, more, rest));

@@ -1,5 +1,5 @@
 -- What the walks of a file that stands have yet to find.
-use Rattle.std.specs.Prelude.{◌≡◌, ◌≢◌, ℕ, ◌≤◌, ◌<◌, Bool, List, length, slice_index_or, ⊤}
+use Rattle.std.specs.Prelude.{◌≡◌, ◌≢◌, ℕ, ◌≤◌, ◌<◌, Bool, List, length, slice_index_or}
 use Rattle.pages.specs.Each.{Each}
 use Rattle.pages.specs.Owners.{IsOutside}
 use Rattle.pages.specs.Marks.{IsUnmarked}
@@ -13,13 +13,6 @@ use Rattle.open_file.specs.InOrder.{alt_entries}
 use Rattle.open_file.specs.declared.open_file.OpenFile.{OpenFile}
 use Rattle.file_checker.specs.Rows.{rows_in}
 use Rattle.file_checker.specs.RowsAhead.{PrimesLead}
-use Rattle.file_checker.specs.declared.parts_fault.PartsFault.{PartsFault}
-use Rattle.file_checker.specs.declared.parts_fault.PartsFault.TheVariants.{Memory, Unsound}
-
--- a check stops for want of memory, or else only where this is not so
-abbrev pub StopsRightly : Type 0 → PartsFault → Type 0
-StopsRightly Stands Memory = ⊤
-StopsRightly Stands (Unsound reason place) = Stands → ⊥
 
 -- the alternate index stands in these pages, with the entries of the rows that the prime index leads to
 abbrev pub HasAlternate : OpenFile → List (List ℕ) → List Leaf → AltIndex → List ℕ → Type 0

@@ -3,7 +3,7 @@ use Rattle.std.specs.Prelude.{◌≡◌, ◌⊎◌, ℕ, ◌<◌, Bool, true, Li
 use Rattle.pages.specs.Each.{Each}
 use Rattle.page_alloc.specs.Chain.{chain, is_among}
 use Rattle.pages.specs.declared.fault_place.FaultPlace.{FaultPlace}
-use Rattle.pages.specs.declared.page_fault.PageFault.{PageFault}
+use Rattle.pages.specs.declared.damage.Damage.{Damage}
 use Rattle.pages.specs.Marks.{marked_in}
 use Rattle.pages.specs.PageList.{pages_in}
 use Rattle.page_walks.specs.declared.leaf.Leaf.{Leaf}
@@ -79,7 +79,7 @@ pub record AreMarksOf (Reached : ℕ → Type 0) (count : ℕ) (marks : List Boo
 
 -- This is wrong with a part: the pages that have their marks before it are some that were reached.
 pub record IsPartFault (Reached : ℕ → Type 0) (count : ℕ)
-    (Wrong : List Bool → PageFault → FaultPlace → Type 0) (fault : PageFault)
+    (Wrong : List Bool → Damage → FaultPlace → Type 0) (fault : Damage)
     (place : FaultPlace) : Type 0 where
   pub marks : List Bool
   pub are : AreMarksOf Reached count marks
@@ -87,14 +87,14 @@ pub record IsPartFault (Reached : ℕ → Type 0) (count : ℕ)
 
 -- so it is with alternate index j
 pub record IsAlternateTreeFault (Before : (j n : ℕ) → Type 0) (count : ℕ) (opened : OpenFile)
-    (list : List (List ℕ)) (fault : PageFault) (place : FaultPlace) : Type 0 where
+    (list : List (List ℕ)) (fault : Damage) (place : FaultPlace) : Type 0 where
   pub j : ℕ
   pub index : AltIndex
   pub at : IsAlternateAt opened j index
   pub wrong : IsPartFault (Before j) count (IsTreeFault index.tree list) fault place
 
 -- one part of a file is not what it should be
-abbrev pub IsWalkFault : Header → OpenFile → List (List ℕ) → PageFault → FaultPlace → Type 0
+abbrev pub IsWalkFault : Header → OpenFile → List (List ℕ) → Damage → FaultPlace → Type 0
 IsWalkFault header opened list fault place =
     IsPartFault IsBeforeFree (length list) (IsFreeFault list header.first_free header.free) fault place
     ⊎ (IsPartFault (IsBeforeHeap header list) (length list) (IsHeapFault (heap_of opened) list) fault place
@@ -137,7 +137,7 @@ pub record HasAlternateFault (opened : OpenFile) (list : List (List ℕ)) (place
 -- ---- the file
 
 -- a part of the file of this header is not what it should be
-pub record HasWalkFault (header : Header) (list : List (List ℕ)) (fault : PageFault)
+pub record HasWalkFault (header : Header) (list : List (List ℕ)) (fault : Damage)
     (place : FaultPlace) : Type 0 where
   pub opened : OpenFile
   pub by_header : IsOpenedBy header opened

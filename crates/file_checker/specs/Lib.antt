@@ -10,15 +10,15 @@ pub mod RowLaws
 pub mod RowFaults
 pub mod Comparing
 pub mod Numbers
+pub mod Reasons
 pub mod Bytes
 pub mod Parts
 pub mod Lost
 pub mod Faults
 pub mod Ahead
 pub mod Later
-pub mod Findings
 pub mod Sound
 pub mod Laws
 pub mod FirstLook
-pub mod UnitExamining
+pub mod UnitChecking
 pub mod Lent

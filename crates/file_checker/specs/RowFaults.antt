@@ -1,9 +1,12 @@
 -- What is wrong with the rows of a file, and where.
-use Rattle.std.specs.Prelude.{◌≡◌, ◌⊎◌, ℕ, ◌<◌, true, List, Some, IsSome, find, ⊤}
+use Rattle.std.specs.Prelude.{◌≡◌, ◌⊎◌, ℕ, ◌<◌, Bool, true, List, Some, IsSome, find, ⊤}
 use Rattle.record_layout.specs.Schema.{prime_of}
 use Rattle.pages.specs.PageList.{pages_in}
 use Rattle.pages.specs.declared.fault_place.FaultPlace.{FaultPlace}
 use Rattle.pages.specs.declared.fault_place.FaultPlace.TheVariants.{Entry}
+use Rattle.pages.specs.declared.damage.Damage.TheVariants.{Index}
+use Rattle.pages.specs.declared.walk_fault.WalkFault.{WalkFault}
+use Rattle.pages.specs.declared.walk_fault.WalkFault.TheVariants.{Memory, At}
 use Rattle.page_walks.specs.declared.spot.LeafSpot.{LeafSpot}
 use Rattle.page_walks.specs.declared.leaf.Leaf.{Leaf}
 use Rattle.page_walks.specs.Spots.{IsSpotThere, spots_in}
@@ -17,17 +20,15 @@ use Rattle.open_file.specs.Stands.{is_same}
 use Rattle.open_file.specs.declared.open_file.OpenFile.{OpenFile}
 use Rattle.bplus_tree.specs.Fields.{tree_shape}
 use Rattle.key_index.specs.declared.alt_index.AltIndex.{AltIndex}
-use Rattle.file_checker.specs.declared.row_fault.RowFault.{RowFault}
-use Rattle.file_checker.specs.declared.row_fault.RowFault.TheVariants.{Memory, Index}
 use Rattle.file_checker.specs.Rows.{place_at, places_in}
 use Rattle.file_checker.specs.Leading.{IsStoredRow, stored_row}
 use Rattle.file_checker.specs.Search.{value_at}
-use Rattle.file_checker.specs.RowsAhead.{HasRowAhead}
+use Rattle.file_checker.specs.RowsAhead.{HasRowAhead, LeadsAhead}
 
 -- that memory ran out, or that an index and the records do not agree, and where, of which this holds
-abbrev pub TellsOfRows : (FaultPlace → Type 0) → RowFault → Type 0
+abbrev pub TellsOfRows : (FaultPlace → Type 0) → WalkFault → Type 0
 TellsOfRows Holds Memory = ⊤
-TellsOfRows Holds (Index place) = Holds place
+TellsOfRows Holds (At damage place) = (damage ≡ Index) × Holds place
 
 -- the entry at one of these places is told, of which this does not hold
 pub record IsEntryFault (spots : List LeafSpot) (Holds : LeafSpot → Type 0) (place : FaultPlace) : Type 0 where
@@ -35,6 +36,10 @@ pub record IsEntryFault (spots : List LeafSpot) (Holds : LeafSpot → Type 0) (p
   pub one : IsOneOf spots spot
   pub told : place ≡ Entry spot.page spot.place
   pub wrong : Holds spot → ⊥
+
+-- so, where an entry at one of these places does not lead to a row that has its value, in a marked page
+abbrev pub TellsOfLeading : OpenFile → List (List ℕ) → (marks : List Bool) → List LeafSpot → WalkFault → Type 0
+TellsOfLeading opened list marks spots = TellsOfRows (IsEntryFault spots (LeadsAhead opened list marks))
 
 -- the entry is there, and leads to a row that has its value, in one of these pages
 pub record LeadsToOwn (opened : OpenFile) (list : List (List ℕ)) (own : List ℕ) (spot : LeafSpot) : Type 0 where

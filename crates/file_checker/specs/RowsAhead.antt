@@ -1,5 +1,5 @@
 -- What the rows of a file that stands have, and a check has yet to find.
-use Rattle.std.specs.Prelude.{◌≡◌, ℕ, true, Bool, List, Some, IsSome, ⊤}
+use Rattle.std.specs.Prelude.{◌≡◌, ℕ, true, Bool, List, Some, IsSome}
 use Rattle.pages.specs.Each.{Each}
 use Rattle.record_layout.specs.Schema.{prime_of}
 use Rattle.pages.specs.Marks.{marked_in}
@@ -14,17 +14,10 @@ use Rattle.open_file.specs.Fields.{heap_of, prime_index_of, file_schema}
 use Rattle.open_file.specs.declared.open_file.OpenFile.{OpenFile}
 use Rattle.bplus_tree.specs.Fields.{tree_shape}
 use Rattle.page_walks.specs.Spots.{entry_at_spot}
-use Rattle.file_checker.specs.declared.row_fault.RowFault.{RowFault}
-use Rattle.file_checker.specs.declared.row_fault.RowFault.TheVariants.{Memory, Index}
 use Rattle.file_checker.specs.Rows.{EntriesRise, RowsStand, place_at, row_at}
 use Rattle.file_checker.specs.Leading.{IsEntryOf, IsStoredRow, stored_row}
 use Rattle.file_checker.specs.Alternate.{HasEntriesOfRows}
 use Rattle.file_checker.specs.Search.{IsPrimeLeaf, value_at}
-
--- a check gives up for want of memory, or else only where this is not so
-abbrev pub RefusesRows : Type 0 → RowFault → Type 0
-RefusesRows Stands Memory = ⊤
-RefusesRows Stands (Index place) = Stands → ⊥
 
 -- the rows stand, and the entries that lead to them are those of these leaves
 pub record RowsAhead (opened : OpenFile) (list : List (List ℕ)) (own : List ℕ)

@@ -7,7 +7,7 @@ use Rattle.tree_node.specs.Leaf.{leaf_entries}
 use Rattle.tree_node.specs.Order.{less, Ascends}
 use Rattle.page_walks.specs.declared.spot.LeafSpot.{LeafSpot}
 use Rattle.page_walks.specs.declared.leaf.Leaf.{Leaf}
-use Rattle.page_walks.specs.Spots.{IsLeafThere, entry_at_spot, spots_in}
+use Rattle.page_walks.specs.Spots.{IsLeafThere, IsSpotThere, entry_at_spot, spots_in}
 use Rattle.record_heap.specs.Chain.{IsOneOf}
 use Rattle.open_file.specs.Fields.{prime_index_of}
 use Rattle.open_file.specs.declared.open_file.OpenFile.{OpenFile}
@@ -21,6 +21,10 @@ value_at opened list spot = take (prime_index_of opened).width (prime_at opened 
 -- the leaf is one of the prime index, as it was read
 abbrev pub IsPrimeLeaf : OpenFile → List (List ℕ) → Leaf → Type 0
 IsPrimeLeaf opened list leaf = IsLeafThere (tree_shape (prime_index_of opened).tree) list leaf
+
+-- an entry of the prime index stands there
+abbrev pub IsPrimeSpot : OpenFile → List (List ℕ) → LeafSpot → Type 0
+IsPrimeSpot opened list spot = IsSpotThere (tree_shape (prime_index_of opened).tree) list spot
 
 -- the value of its last entry
 abbrev pub last_value : OpenFile → List (List ℕ) → Leaf → List ℕ

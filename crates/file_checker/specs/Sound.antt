@@ -10,13 +10,13 @@ use Rattle.pages.specs.declared.fault_place.FaultPlace.TheVariants.{File as TheF
 use Rattle.open_file.specs.declared.first_page.Header.{Header}
 use Rattle.open_file.specs.FirstPageReading.{header_in, number_in}
 use Rattle.shelf_library.specs.ClosedFile.{IsAcceptedBy, StandsIn}
+use Rattle.pages.specs.declared.damage.Damage.TheVariants.{Shared as SharedPage, Node as WrongNode}
+use Rattle.pages.specs.declared.damage.Damage.TheVariants.{Order as WrongOrder, Heap as BrokenHeap}
+use Rattle.pages.specs.declared.damage.Damage.TheVariants.{Index as WrongIndex, Lost as LostPage}
 use Rattle.file_checker.specs.declared.verdict.Reason.{Reason}
 use Rattle.file_checker.specs.declared.verdict.Reason.TheVariants.{Short, Gate, Header as NoHeader}
 use Rattle.file_checker.specs.declared.verdict.Reason.TheVariants.{Shared, Node, Order, Heap, Index}
 use Rattle.file_checker.specs.declared.verdict.Reason.TheVariants.{Lost}
-use Rattle.file_checker.specs.declared.finding.Finding.{Finding}
-use Rattle.file_checker.specs.declared.finding.Finding.TheVariants.{Sound as FoundSound}
-use Rattle.file_checker.specs.declared.finding.Finding.TheVariants.{Unsound as FoundUnsound}
 use Rattle.file_checker.specs.declared.verdict.Verdict.{Verdict}
 use Rattle.file_checker.specs.declared.verdict.Verdict.TheVariants.{Sound, Unsound}
 use Rattle.file_checker.specs.declared.verdict.CheckFault.{CheckFault}
@@ -63,40 +63,32 @@ HoldsAt bytes Short place = (place ≡ TheFile) × IsShort bytes
 HoldsAt bytes Gate place = (place ≡ TheFile) × IsLong bytes × (slice_index bytes 0 ≢ 67)
 HoldsAt bytes NoHeader place = (place ≡ TheFile) × IsLong bytes × (slice_index bytes 0 ≡ 67)
     × (header_in (page_of_bytes bytes 0) ≡ None)
-HoldsAt bytes Shared place = IsShown bytes (λ header list. IsMetIn header list Shared place)
-HoldsAt bytes Node place = IsShown bytes (λ header list. IsMetIn header list Node place)
-HoldsAt bytes Order place = IsShown bytes (λ header list. IsMetIn header list Order place)
-HoldsAt bytes Heap place = IsShown bytes (λ header list. IsMetIn header list Heap place)
-HoldsAt bytes Index place = IsShown bytes (λ header list. IsMetIn header list Index place)
-HoldsAt bytes Lost place = IsShown bytes (λ header list. IsMetIn header list Lost place)
-
--- it holds at some place
-abbrev pub HasReason : List ℕ → Reason → Type 0
-HasReason bytes reason = (place : FaultPlace) × HoldsAt bytes reason place
+HoldsAt bytes Shared place = IsShown bytes (λ header list. IsMetIn header list SharedPage place)
+HoldsAt bytes Node place = IsShown bytes (λ header list. IsMetIn header list WrongNode place)
+HoldsAt bytes Order place = IsShown bytes (λ header list. IsMetIn header list WrongOrder place)
+HoldsAt bytes Heap place = IsShown bytes (λ header list. IsMetIn header list BrokenHeap place)
+HoldsAt bytes Index place = IsShown bytes (λ header list. IsMetIn header list WrongIndex place)
+HoldsAt bytes Lost place = IsShown bytes (λ header list. IsMetIn header list LostPage place)
 
 -- the bytes are those of no sound file
 abbrev pub IsUnsound : List ℕ → Type 0
 IsUnsound bytes = (records pages : ℕ) → IsSound bytes records pages → ⊥
 
--- A verdict that is right: the bytes are those of a sound file, of so many records and pages; or they are
--- those of none, and this is known by the reason. So of any bytes a verdict of one kind alone is right.
-abbrev pub IsRight : List ℕ → Verdict → Type 0
-IsRight bytes (Sound records pages) = IsSound bytes records pages
-IsRight bytes (Unsound reason) = HasReason bytes reason × IsUnsound bytes
-
 -- bytes of no sound file, of which the reason holds at this place
 abbrev pub IsUnsoundAt : FaultPlace → List ℕ → Reason → Type 0
 IsUnsoundAt place bytes reason = HoldsAt bytes reason place × IsUnsound bytes
 
--- a finding that is right: so, with the place of the reason
-abbrev pub IsRightFinding : List ℕ → Finding → Type 0
-IsRightFinding bytes (FoundSound records pages) = IsSound bytes records pages
-IsRightFinding bytes (FoundUnsound reason place) = IsUnsoundAt place bytes reason
+-- A verdict that is right: the bytes are those of a sound file, of so many records and pages; or they are
+-- those of none, and this is known by the reason, which holds at the place. So of any bytes a verdict of
+-- one kind alone is right.
+abbrev pub IsRight : List ℕ → Verdict → Type 0
+IsRight bytes (Sound records pages) = IsSound bytes records pages
+IsRight bytes (Unsound reason place) = IsUnsoundAt place bytes reason
 
--- the finding is right of each file with this header that has these pages
-abbrev pub IsRightOfPages : Header → List (List ℕ) → Finding → Type 0
-IsRightOfPages header list finding =
-    (bytes : List ℕ) → HasPages bytes header list → IsRightFinding bytes finding
+-- the verdict is right of each file with this header that has these pages
+abbrev pub IsRightOfPages : Header → List (List ℕ) → Verdict → Type 0
+IsRightOfPages header list verdict =
+    (bytes : List ℕ) → HasPages bytes header list → IsRight bytes verdict
 
 -- how many bytes are asked for: those of the first page, and of the others that it counts
 abbrev pub asked_in : List ℕ → ℕ
@@ -105,8 +97,8 @@ asked_in bytes = 4096 + 4096 * (counted_in bytes - 1)
 -- what was read for a verdict: all bytes that are asked for and no more, or all that there are
 -- where they are too few
 pub record IsReadFor (bytes : List ℕ) (after : Option (List ℕ)) (verdict : Verdict) : Type 0 where
-  pub whole : verdict ≢ Unsound Short → HasGiven (Some bytes) after (asked_in bytes)
-  pub short : verdict ≡ Unsound Short → IsAtEnd after
+  pub whole : verdict ≢ Unsound Short TheFile → HasGiven (Some bytes) after (asked_in bytes)
+  pub short : verdict ≡ Unsound Short TheFile → IsAtEnd after
 
 -- What was read where no verdict is told: for want of input, fewer bytes than are asked for; for
 -- want of memory, whole pages of a file whose first page is accepted.
@@ -115,16 +107,15 @@ CheckGivesUp bytes after Input = HasGivenLess (Some bytes) after (asked_in bytes
 CheckGivesUp bytes after Memory = HasGivenPages (Some bytes) after (counted_in bytes)
     × ((header : Header) × (header_in (page_of_bytes bytes 0) ≡ Some header))
 
--- What a call tells of a file whose bytes are known, where what it finds tells the verdict: it is
--- right, and what was read is what it asks for; a fault tells where the reading ended.
-pub record Examines {X : Type 0} (Right : List ℕ → X → Type 0) (verdict : X → Verdict)
-    (before after : Option (List ℕ)) (result : Result X CheckFault) : Type 0 where
-  pub right : IfSome before (λ bytes. IfOk result (Right bytes))
-  pub read : IfSome before (λ bytes. IfOk result (λ found. IsReadFor bytes after (verdict found)))
+-- What a check tells of a file whose bytes are known: a verdict that is right, and what was read is what
+-- it asks for; a fault tells where the reading ended.
+pub record ChecksReader (before after : Option (List ℕ)) (result : Result Verdict CheckFault) : Type 0 where
+  pub right : IfSome before (λ bytes. IfOk result (IsRight bytes))
+  pub read : IfSome before (λ bytes. IfOk result (IsReadFor bytes after))
   pub fault : IfSome before (λ bytes. IfErr result (CheckGivesUp bytes after))
 
--- the same where the first page was read already
-pub record ExaminesBehind {X : Type 0} (first : List ℕ) (Right : List ℕ → X → Type 0)
+-- the same where the first page was read already, and what a call finds tells the verdict
+pub record ChecksBehind {X : Type 0} (first : List ℕ) (Right : List ℕ → X → Type 0)
     (verdict : X → Verdict) (before after : Option (List ℕ)) (result : Result X CheckFault) : Type 0 where
   pub right : (bytes : List ℕ) → Consumes (Some bytes) before first → IfOk result (Right bytes)
   pub read : (bytes : List ℕ) → Consumes (Some bytes) before first
@@ -135,4 +126,4 @@ pub record ExaminesBehind {X : Type 0} (first : List ℕ) (Right : List ℕ → 
 abbrev pub RefusesBehind : (first : List ℕ) → (before after : Option (List ℕ)) → Result Reason CheckFault
     → Type 0
 RefusesBehind first before after result =
-    ExaminesBehind first (IsUnsoundAt TheFile) (λ reason. Unsound reason) before after result
+    ChecksBehind first (IsUnsoundAt TheFile) (λ reason. Unsound reason TheFile) before after result

@@ -4,19 +4,20 @@ ghost use Rattle.std.specs.Prelude.{◌≡◌, IsTrue, length};
 ghost use Rattle.page_walks.specs.Spots.{spots_in};
 ghost use Rattle.file_checker.specs.Alternate.{IsIndexFor, IsEntryFor, EntriesAscend};
 ghost use Rattle.file_checker.specs.Leading.{HasRow, IsEntryOf};
-ghost use Rattle.file_checker.specs.RowsAhead.{HasItsRow, HasRowAhead, PrimesLead};
-ghost use Rattle.file_checker.specs.Comparing.{pages_read, ChecksLeaf, ChecksLeaves, ComparesIndex};
+ghost use Rattle.file_checker.specs.RowsAhead.{HasItsRow};
+ghost use Rattle.file_checker.specs.Comparing.{pages_read, ChecksLeaf, ChecksLeaves, ComparesIndex, FindsLedRow};
 ghost use Rattle.pages.specs.Source.{KeepsItsPages, OfItsPages};
 
 use crate::entry::{entry_copied, entry_near, place_led_to};
+use crate::index_damage::entry_of_no_row;
 use crate::lent_pages::LentPages;
 use crate::record::stored_at;
 use crate::row::{stamp, value};
-use crate::row_fault::RowFault;
 use byteorder::{BigEndian, ByteOrder};
 use key_index::AltIndex;
 use open_file::OpenFile;
 use page_walks::{Leaf, LeafSpot};
+use pages::WalkFault;
 
 /// The bytes of a stamp.
 const STAMP: usize = 8;
@@ -60,8 +61,8 @@ fn has_row<P: LentPages>(
     requires { IsIndexFor file.now index }
     ensures row { OfItsPages P.has pages.new
         (λ list. IsTrue result → HasRow file.now list (spots_in primes.now) index spot) }
-    ensures refused { OfItsPages P.has pages.new (λ list. PrimesLead file.now list primes.now
-        → HasRowAhead file.now list (spots_in primes.now) index spot → IsTrue result) }
+    ensures refused { OfItsPages P.has pages.new
+        (λ list. FindsLedRow (pages_read file.now list primes.now) index spot result) }
     ensures before { KeepsItsPages P.has pages.old pages.new }
 {
     let Some(entry) = entry_copied(pages, index.tree.shape(), spot) else {
@@ -80,7 +81,7 @@ fn check_leaf<P: LentPages>(
     primes: &[Leaf],
     index: AltIndex,
     leaf: Leaf,
-) -> Result<(), RowFault>
+) -> Result<(), WalkFault>
     requires { IsIndexFor file.now index }
     ensures checks { OfItsPages P.has pages.new
         (λ list. ChecksLeaf (pages_read file.now list primes.now) index leaf result) }
@@ -92,7 +93,7 @@ fn check_leaf<P: LentPages>(
             place,
         };
         if !has_row(pages, file, primes, index, spot) {
-            return Err(RowFault::of_entry(spot));
+            return Err(entry_of_no_row(spot));
         }
     }
     Ok(())
@@ -105,7 +106,7 @@ fn check_leaves<P: LentPages>(
     primes: &[Leaf],
     index: AltIndex,
     leaves: &[Leaf],
-) -> Result<(), RowFault>
+) -> Result<(), WalkFault>
     requires { IsIndexFor file.now index }
     ensures checks { OfItsPages P.has pages.new
         (λ list. ChecksLeaves (pages_read file.now list primes.now) index leaves.now result) }
@@ -127,7 +128,7 @@ pub fn check_alternate<P: LentPages>(
     primes: &[Leaf],
     index: AltIndex,
     leaves: &[Leaf],
-) -> Result<(), RowFault>
+) -> Result<(), WalkFault>
     requires index { IsIndexFor file.now index }
     requires many { OfItsPages P.has pages.old
         (λ list. length (spots_in leaves.now) ≡ length (spots_in primes.now)) }

@@ -3,18 +3,14 @@
 ghost use Rattle.std.specs.Prelude.{◌≡◌, None};
 ghost use Rattle.open_file.specs.FirstPageReading.{header_in};
 ghost use Rattle.open_file.specs.FirstPage.{IsFirstPage};
-ghost use Rattle.file_checker.specs.Findings.{verdict_of};
-ghost use Rattle.file_checker.specs.Sound.{Examines, ExaminesBehind, IsRight, IsRightFinding};
-ghost use Rattle.file_checker.specs.Sound.{RefusesBehind};
+ghost use Rattle.file_checker.specs.Sound.{ChecksBehind, ChecksReader, IsRight, RefusesBehind};
 
-use crate::finding::Finding;
 use crate::parts::check_listed;
-use crate::parts_fault::PartsFault;
 use crate::reading::{push_page, read_page, read_pages, skip_pages};
 use crate::verdict::{CheckFault, Reason, Verdict};
 use byteorder::{BigEndian, ByteOrder};
 use open_file::Header;
-use pages::{FaultPlace, PAGE_SIZE};
+use pages::{FaultPlace, PAGE_SIZE, WalkFault};
 use std::alloc::Global;
 use std::io::Read;
 
@@ -41,44 +37,29 @@ fn refusal<R: Read>(reader: &mut R, first: &[u8; PAGE_SIZE]) -> Result<Reason, C
     Ok(Reason::Header)
 }
 
-/// Examines the file of a header that its first page has, behind which the reader stands.
-fn examine_accepted<R: Read>(
+/// Checks the file of a header that its first page has, behind which the reader stands.
+fn check_accepted<R: Read>(
     alloc: Global,
     reader: &mut R,
     first: &[u8; PAGE_SIZE],
     header: &Header,
-) -> Result<Finding, CheckFault>
+) -> Result<Verdict, CheckFault>
     requires { IsFirstPage header.now first.now }
-    ensures { ExaminesBehind first.now IsRightFinding verdict_of
+    ensures { ChecksBehind first.now IsRight (λ verdict. verdict)
         (R.remaining reader.old) (R.remaining reader.new) result }
 {
     let mut pages = Vec::new(alloc);
     push_page(&mut pages, *first)?;
     if !read_pages(reader, header.pages, &mut pages)? {
-        return Ok(Finding::Unsound(Reason::Short, FaultPlace::File));
+        return Ok(Verdict::Unsound(Reason::Short, FaultPlace::File));
     }
     match check_listed(alloc, &pages, header) {
-        Ok(()) => Ok(Finding::Sound {
+        Ok(()) => Ok(Verdict::Sound {
             records: header.records,
             pages: header.pages,
         }),
-        Err(PartsFault::Unsound(reason, place)) => Ok(Finding::Unsound(reason, place)),
-        Err(PartsFault::Memory) => Err(CheckFault::Memory),
-    }
-}
-
-/// Examines a file: answers what `check_file` answers of it, and the place at which the reason that
-/// it tells holds. It reads as `check_file` does, and has its faults.
-pub fn examine_file<R: Read>(alloc: Global, reader: &mut R) -> Result<Finding, CheckFault>
-    ensures { Examines IsRightFinding verdict_of (R.remaining reader.old) (R.remaining reader.new) result }
-{
-    let mut first = [0; PAGE_SIZE];
-    if !read_page(reader, &mut first)? {
-        return Ok(Finding::Unsound(Reason::Short, FaultPlace::File));
-    }
-    match Header::read(&first) {
-        None => Ok(Finding::Unsound(refusal(reader, &first)?, FaultPlace::File)),
-        Some(header) => examine_accepted(alloc, reader, &first, &header),
+        Err(WalkFault::At(damage, place)) => Ok(Verdict::Unsound(Reason::of_damage(damage), place)),
+        Err(WalkFault::Memory) => Err(CheckFault::Memory),
     }
 }
 
@@ -88,8 +69,14 @@ pub fn examine_file<R: Read>(alloc: Global, reader: &mut R) -> Result<Finding, C
 ///
 /// Input where the reader fails, or is interrupted a thousand times in a row; Memory.
 pub fn check_file<R: Read>(alloc: Global, reader: &mut R) -> Result<Verdict, CheckFault>
-    ensures { Examines IsRight (λ verdict. verdict) (R.remaining reader.old) (R.remaining reader.new) result }
+    ensures { ChecksReader (R.remaining reader.old) (R.remaining reader.new) result }
 {
-    let finding = examine_file(alloc, reader)?;
-    Ok(finding.verdict())
+    let mut first = [0; PAGE_SIZE];
+    if !read_page(reader, &mut first)? {
+        return Ok(Verdict::Unsound(Reason::Short, FaultPlace::File));
+    }
+    match Header::read(&first) {
+        None => Ok(Verdict::Unsound(refusal(reader, &first)?, FaultPlace::File)),
+        Some(header) => check_accepted(alloc, reader, &first, &header),
+    }
 }

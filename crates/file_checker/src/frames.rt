@@ -1,13 +1,12 @@
 //! The frames in which pages are kept that were read.
 
-ghost use Rattle.std.specs.Prelude.{◌≡◌, ◌-◌, ◌^◌, ◌<◌, All, IfSome, length};
+ghost use Rattle.std.specs.Prelude.{◌≡◌, ◌-◌, ◌^◌, ◌<◌, ◌≤◌, All, IfSome, length};
+ghost use Rattle.std.specs.NonZero.{non_zero_usize_get};
 ghost use Rattle.file_checker.specs.Frames.{IsFrameOf, SetsFrame};
 
 use pages::PAGE_SIZE;
 use std::alloc::Global;
-
-/// So many pages are kept at most.
-const MOST_FRAMES: u32 = 1024;
+use std::num::NonZeroUsize;
 
 /// The number of no page.
 const NO_PAGE: u32 = u32::MAX;
@@ -19,15 +18,17 @@ pub struct Frame {
     pub bytes: [u8; PAGE_SIZE],
 }
 
-/// Frames without a page, for a file of so many pages: none where memory is wanting.
-pub fn no_frames(alloc: Global, count: u32) -> Vec<Frame>
-    ensures { All (λ frame. frame.page ≡ 2 ^ 32 - 1) result.items }
+/// Frames without a page for a file of so many pages, `most` of them at most: none where memory is
+/// wanting.
+pub fn no_frames(alloc: Global, count: u32, most: NonZeroUsize) -> Vec<Frame>
+    ensures clear { All (λ frame. frame.page ≡ 2 ^ 32 - 1) result.items }
+    ensures few { length result.items ≤ non_zero_usize_get most }
 {
     let none = Frame {
         page: NO_PAGE,
         bytes: [0; PAGE_SIZE],
     };
-    match vec![in alloc; none; count.min(MOST_FRAMES) as usize] {
+    match vec![in alloc; none; most.get().min(count as usize)] {
         Ok(frames) => frames,
         Err(_) => Vec::new(alloc),
     }

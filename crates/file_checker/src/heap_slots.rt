@@ -1,22 +1,21 @@
 //! The slots of the heap, each of which an entry of the prime index leads to, if it is in use.
 
 ghost use Rattle.std.specs.Prelude.{◌≡◌, IsTrue};
-ghost use Rattle.page_walks.specs.Spots.{IsSpotThere, spots_in};
+ghost use Rattle.page_walks.specs.Spots.{spots_in};
 ghost use Rattle.open_file.specs.Stands.{IsShaped};
-ghost use Rattle.open_file.specs.Fields.{prime_index_of};
-ghost use Rattle.bplus_tree.specs.Fields.{tree_shape};
 ghost use Rattle.file_checker.specs.Rows.{place_at};
 ghost use Rattle.file_checker.specs.Leading.{HasEntry};
-ghost use Rattle.file_checker.specs.RowsAhead.{PrimesLead};
-ghost use Rattle.file_checker.specs.Comparing.{pages_read, ChecksPage, ChecksSlots};
+ghost use Rattle.file_checker.specs.Search.{IsPrimeSpot};
+ghost use Rattle.file_checker.specs.Comparing.{pages_read, ChecksPage, ChecksSlots, FindsItsEntry};
 ghost use Rattle.pages.specs.Source.{KeepsItsPages, OfItsPages};
 
 use crate::entry::{entry_near, place_led_to};
+use crate::index_damage::slot_without_entry;
 use crate::lent_pages::LentPages;
 use crate::record::prime_value_at;
-use crate::row_fault::RowFault;
 use open_file::OpenFile;
 use page_walks::{Leaf, LeafSpot};
+use pages::WalkFault;
 use record_heap::Place;
 
 /// The slot is not in use, or an entry of the prime index leads to it.
@@ -24,8 +23,8 @@ fn has_entry<P: LentPages>(pages: &mut P, file: &OpenFile, primes: &[Leaf], plac
     requires { IsShaped file.now }
     ensures entry { OfItsPages P.has pages.new
         (λ list. IsTrue result → HasEntry file.now list (spots_in primes.now) place) }
-    ensures refused { OfItsPages P.has pages.new (λ list. PrimesLead file.now list primes.now
-        → HasEntry file.now list (spots_in primes.now) place → IsTrue result) }
+    ensures refused { OfItsPages P.has pages.new
+        (λ list. FindsItsEntry (pages_read file.now list primes.now) place result) }
     ensures before { KeepsItsPages P.has pages.old pages.new }
 {
     let Some(value) = prime_value_at(pages, file, place) else {
@@ -42,8 +41,7 @@ fn leads_to<P: LentPages>(pages: &mut P, file: &OpenFile, spot: LeafSpot, place:
     ensures leads { OfItsPages P.has pages.new
         (λ list. IsTrue result → place ≡ place_at file.now list spot) }
     ensures refused { OfItsPages P.has pages.new
-        (λ list. IsSpotThere (tree_shape (prime_index_of file.now).tree) list spot
-        → place ≡ place_at file.now list spot → IsTrue result) }
+        (λ list. IsPrimeSpot file.now list spot → place ≡ place_at file.now list spot → IsTrue result) }
     ensures before { KeepsItsPages P.has pages.old pages.new }
 {
     match place_led_to(pages, file, spot) {
@@ -58,7 +56,7 @@ fn check_page<P: LentPages>(
     file: &OpenFile,
     primes: &[Leaf],
     n: u32,
-) -> Result<(), RowFault>
+) -> Result<(), WalkFault>
     requires { IsShaped file.now }
     ensures checks { OfItsPages P.has pages.new
         (λ list. ChecksPage (pages_read file.now list primes.now) n result) }
@@ -70,7 +68,7 @@ fn check_page<P: LentPages>(
             slot: i as u16,
         };
         if !has_entry(pages, file, primes, place) {
-            return Err(RowFault::of_slot(place));
+            return Err(slot_without_entry(place));
         }
     }
     Ok(())
@@ -82,7 +80,7 @@ pub fn check_slots<P: LentPages>(
     file: &OpenFile,
     primes: &[Leaf],
     own: &[u32],
-) -> Result<(), RowFault>
+) -> Result<(), WalkFault>
     requires { IsShaped file.now }
     ensures checks { OfItsPages P.has pages.new
         (λ list. ChecksSlots (pages_read file.now list primes.now) own.now result) }

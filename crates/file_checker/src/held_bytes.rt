@@ -6,16 +6,14 @@ ghost use Rattle.open_file.specs.FirstPageReading.{header_in};
 ghost use Rattle.open_file.specs.Bounds.{IsHeader};
 ghost use Rattle.page_store.specs.DeviceFile.{page_of_bytes};
 ghost use Rattle.pages.specs.declared.fault_place.FaultPlace.TheVariants.{File as TheFile};
-ghost use Rattle.file_checker.specs.Sound.{IsRight, IsRightFinding, IsRightOfPages, IsUnsoundAt};
+ghost use Rattle.file_checker.specs.Sound.{IsRight, IsRightOfPages, IsUnsoundAt};
 ghost use Rattle.file_checker.specs.Bytes.{AreAllPages, AreFrontOf};
 
-use crate::finding::Finding;
 use crate::parts::check_listed;
-use crate::parts_fault::PartsFault;
 use crate::verdict::{Reason, Verdict};
 use byteorder::{BigEndian, ByteOrder};
 use open_file::Header;
-use pages::{FaultPlace, PAGE_SIZE};
+use pages::{FaultPlace, PAGE_SIZE, WalkFault};
 use std::alloc::{AllocError, Global};
 
 /// Where the first page counts the pages, itself among them.
@@ -59,57 +57,45 @@ fn refusal(bytes: &[u8], first: &[u8; PAGE_SIZE]) -> Reason
     Reason::Header
 }
 
-/// Examines a file with this header, of which these are the pages.
-fn examine_counted(
+/// Checks a file with this header, of which these are the pages.
+fn check_counted(
     alloc: Global,
     pages: &[[u8; PAGE_SIZE]],
     header: &Header,
-) -> Result<Finding, AllocError>
+) -> Result<Verdict, AllocError>
     requires header { IsHeader header.now }
     requires counted { length pages.now ≡ header.now.pages }
     ensures { IfOk result (IsRightOfPages header.now pages.now) }
 {
     match check_listed(alloc, pages, header) {
-        Ok(()) => Ok(Finding::Sound {
+        Ok(()) => Ok(Verdict::Sound {
             records: header.records,
             pages: header.pages,
         }),
-        Err(PartsFault::Unsound(reason, place)) => Ok(Finding::Unsound(reason, place)),
-        Err(PartsFault::Memory) => Err(AllocError),
+        Err(WalkFault::At(damage, place)) => Ok(Verdict::Unsound(Reason::of_damage(damage), place)),
+        Err(WalkFault::Memory) => Err(AllocError),
     }
 }
 
-/// Examines the file that begins with this page, of which these are all whole pages.
-fn examine_from(
+/// Checks the file that begins with this page, of which these are all whole pages.
+fn check_from(
     alloc: Global,
     bytes: &[u8],
     pages: &[[u8; PAGE_SIZE]],
     first: &[u8; PAGE_SIZE],
-) -> Result<Finding, AllocError>
+) -> Result<Verdict, AllocError>
     requires pages { AreAllPages bytes.now pages.now }
     requires first { page_of_bytes bytes.now 0 ≡ first.now }
     requires long { 4096 ≤ length bytes.now }
-    ensures { IfOk result (IsRightFinding bytes.now) }
+    ensures { IfOk result (IsRight bytes.now) }
 {
     let header = match Header::read(first) {
         Some(header) => header,
-        None => return Ok(Finding::Unsound(refusal(bytes, first), FaultPlace::File)),
+        None => return Ok(Verdict::Unsound(refusal(bytes, first), FaultPlace::File)),
     };
     match front_of(pages, header.pages) {
-        Some(counted) => examine_counted(alloc, counted, &header),
-        None => Ok(Finding::Unsound(Reason::Short, FaultPlace::File)),
-    }
-}
-
-/// Examines the file that has these bytes, where they lie: its pages are not copied. It finds what
-/// `examine_file` finds of a reader that has them. An error is want of memory.
-pub fn examine_bytes(alloc: Global, bytes: &[u8]) -> Result<Finding, AllocError>
-    ensures { IfOk result (IsRightFinding bytes.now) }
-{
-    let pages = pages_in(bytes);
-    match pages.first() {
-        Some(first) => examine_from(alloc, bytes, pages, first),
-        None => Ok(Finding::Unsound(Reason::Short, FaultPlace::File)),
+        Some(counted) => check_counted(alloc, counted, &header),
+        None => Ok(Verdict::Unsound(Reason::Short, FaultPlace::File)),
     }
 }
 
@@ -118,6 +104,9 @@ pub fn examine_bytes(alloc: Global, bytes: &[u8]) -> Result<Finding, AllocError>
 pub fn check_bytes(alloc: Global, bytes: &[u8]) -> Result<Verdict, AllocError>
     ensures { IfOk result (IsRight bytes.now) }
 {
-    let finding = examine_bytes(alloc, bytes)?;
-    Ok(finding.verdict())
+    let pages = pages_in(bytes);
+    match pages.first() {
+        Some(first) => check_from(alloc, bytes, pages, first),
+        None => Ok(Verdict::Unsound(Reason::Short, FaultPlace::File)),
+    }
 }

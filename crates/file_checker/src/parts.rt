@@ -5,20 +5,18 @@ ghost use Rattle.page_walks.specs.Spots.{spots_in};
 ghost use Rattle.pages.specs.Source.{KeepsItsPages, OfItsPages};
 ghost use Rattle.open_file.specs.Bounds.{IsHeader};
 ghost use Rattle.open_file.specs.Stands.{IsShaped};
-ghost use Rattle.file_checker.specs.Ahead.{AlternatesAhead, StopsRightly};
-ghost use Rattle.file_checker.specs.Later.{ChecksPages, StopsWalk, TellsOfIndexes};
-ghost use Rattle.file_checker.specs.RowsAhead.{PrimesLead};
+ghost use Rattle.file_checker.specs.Ahead.{AlternatesAhead};
+ghost use Rattle.file_checker.specs.Later.{ChecksPages, TellsOfAlternates};
+ghost use Rattle.pages.specs.Refused.{RefusesRightly};
 ghost use Rattle.file_checker.specs.Lost.{first_unmarked};
 ghost use Rattle.file_checker.specs.Parts.{AllFound, AlternatesCount, MayCheckParts};
 
 use crate::alternate::check_alternate;
 use crate::lent_pages::LentPages;
-use crate::parts_fault::PartsFault;
 use crate::prime_rows::check_rows;
-use crate::verdict::Reason;
 use open_file::{Header, OpenFile};
 use page_walks::{Leaf, walk_free, walk_heap, walk_tree};
-use pages::{FaultPlace, PAGE_SIZE, PageList, mark};
+use pages::{Damage, FaultPlace, PAGE_SIZE, PageList, WalkFault, mark};
 use std::alloc::Global;
 
 /// Walks the index of each alternate key, and compares it with the rows to which the entries of
@@ -29,18 +27,16 @@ fn check_alternates<P: LentPages>(
     file: &OpenFile,
     primes: &[Leaf],
     reached: &mut [bool],
-) -> Result<(), PartsFault>
+) -> Result<(), WalkFault>
     requires shaped { IsShaped file.now }
     requires many { OfItsPages P.has pages.old
         (λ list. AlternatesCount file.now (length (spots_in primes.now))) }
     ensures found { OfItsPages P.has pages.new (λ list. OnOk result
         (AllFound file.now list (spots_in primes.now) reached.old reached.new)) }
-    ensures stop { IfErr result StopsWalk }
     ensures refused { OfItsPages P.has pages.new (λ list. IfErr result
-        (StopsRightly (AlternatesAhead file.now list primes.now 0 reached.old))) }
-    ensures told { OfItsPages P.has pages.new (λ list. IfErr result
-        (λ stop. PrimesLead file.now list primes.now
-        → TellsOfIndexes file.now list primes.now reached.old stop)) }
+        (RefusesRightly (AlternatesAhead file.now list primes.now 0 reached.old))) }
+    ensures told { OfItsPages P.has pages.new
+        (λ list. IfErr result (TellsOfAlternates file.now list primes.now reached.old)) }
     ensures before { KeepsItsPages P.has pages.old pages.new }
 {
     for &index in file.alternates() {
@@ -64,7 +60,7 @@ fn check_parts<P: LentPages>(
     pages: &mut P,
     header: &Header,
     reached: &mut [bool],
-) -> Result<(), PartsFault>
+) -> Result<(), WalkFault>
     requires header { IsHeader header.now }
     requires many { length reached.old ≡ header.now.pages }
     requires may { OfItsPages P.has pages.old (λ list. MayCheckParts header.now list reached.old) }
@@ -79,7 +75,7 @@ fn check_parts<P: LentPages>(
     check_rows(alloc, pages, reached.len(), &file, &own, &primes)?;
     check_alternates(alloc, pages, &file, &primes, reached)?;
     match first_lost(reached) {
-        Some(n) => Err(PartsFault::Unsound(Reason::Lost, FaultPlace::Page(n as u32))),
+        Some(n) => Err(WalkFault::At(Damage::Lost, FaultPlace::Page(n as u32))),
         None => Ok(()),
     }
 }
@@ -89,7 +85,7 @@ pub fn check_pages<P: LentPages>(
     alloc: Global,
     pages: &mut P,
     header: &Header,
-) -> Result<(), PartsFault>
+) -> Result<(), WalkFault>
     requires header { IsHeader header.now }
     requires counted { OfItsPages P.has pages.old (λ list. length list ≡ header.now.pages) }
     ensures checks { OfItsPages P.has pages.new (λ list. ChecksPages header.now list result) }
@@ -97,7 +93,7 @@ pub fn check_pages<P: LentPages>(
 {
     let mut reached = match vec![in alloc; false; header.pages as usize] {
         Ok(reached) => reached,
-        Err(_) => return Err(PartsFault::Memory),
+        Err(_) => return Err(WalkFault::Memory),
     };
     check_parts(alloc, pages, header, &mut reached)
 }
@@ -107,7 +103,7 @@ pub fn check_listed(
     alloc: Global,
     pages: &[[u8; PAGE_SIZE]],
     header: &Header,
-) -> Result<(), PartsFault>
+) -> Result<(), WalkFault>
     requires header { IsHeader header.now }
     requires counted { length pages.now ≡ header.now.pages }
     ensures { ChecksPages header.now pages.now result }

@@ -7,30 +7,31 @@ ghost use Rattle.pages.specs.Marks.{marked_in};
 ghost use Rattle.page_walks.specs.Spots.{spots_below, spots_in};
 ghost use Rattle.record_heap.specs.Walk.{is_in_list};
 ghost use Rattle.open_file.specs.Stands.{IsShaped};
-ghost use Rattle.file_checker.specs.Rows.{EntriesRise, MayCompareRows, RowsStand};
+ghost use Rattle.file_checker.specs.Rows.{EntriesRise, MayCompareRows};
 ghost use Rattle.file_checker.specs.Leading.{LeadsToRow, OfEachEntry};
-ghost use Rattle.file_checker.specs.RowsAhead.{LeadsAhead, RefusesRows, RowsAhead};
-ghost use Rattle.file_checker.specs.RowFaults.{IsEntryFault, IsRowFault, TellsOfRows};
-ghost use Rattle.file_checker.specs.Search.{IsPrimeLeaf};
+ghost use Rattle.file_checker.specs.RowsAhead.{LeadsAhead};
+ghost use Rattle.file_checker.specs.RowFaults.{TellsOfLeading};
+ghost use Rattle.file_checker.specs.Comparing.{pages_read, ComparesRows};
 ghost use Rattle.pages.specs.Source.{KeepsItsPages, OfItsPages};
 
 use crate::entry::{entry_copied, place_in};
 use crate::heap_slots::check_slots;
+use crate::index_damage::entry_of_no_row;
 use crate::lent_pages::LentPages;
 use crate::record::stored_at;
 use crate::row::{is_row, value};
-use crate::row_fault::RowFault;
 use open_file::OpenFile;
 use page_walks::{Leaf, LeafSpot};
+use pages::WalkFault;
 use std::alloc::Global;
 
 /// No marks, for so many pages.
-fn no_marks(alloc: Global, count: usize) -> Result<Vec<bool>, RowFault>
+fn no_marks(alloc: Global, count: usize) -> Result<Vec<bool>, WalkFault>
     ensures none { IfOk result (λ marks. (n : ℕ) → marked_in marks.items n ≡ false) }
     ensures many { IfOk result (λ marks. length marks.items ≡ count) }
-    ensures memory { IfErr result (λ fault. fault ≡ RowFault.Memory) }
+    ensures memory { IfErr result (λ fault. fault ≡ WalkFault.Memory) }
 {
-    vec![in alloc; false; count].map_err(|_| RowFault::Memory)
+    vec![in alloc; false; count].map_err(|_| WalkFault::Memory)
 }
 
 /// Marks a page, if it is one of the pages.
@@ -97,15 +98,15 @@ fn check_leaf<P: LentPages>(
     file: &OpenFile,
     marks: &[bool],
     leaf: Leaf,
-) -> Result<(), RowFault>
+) -> Result<(), WalkFault>
     requires { IsShaped file.now }
     ensures lead { OfItsPages P.has pages.new
         (λ list. OnOk result (OfEachEntry (LeadsToRow file.now list marks.now) leaf)) }
     ensures refused { OfItsPages P.has pages.new
         (λ list. OnErr result (OfEachEntry (LeadsAhead file.now list marks.now) leaf → ⊥)) }
     ensures told { OfItsPages P.has pages.new
-        (λ list. IfErr result (TellsOfRows (IsEntryFault (spots_below leaf.page leaf.count)
-        (LeadsAhead file.now list marks.now)))) }
+        (λ list. IfErr result
+        (TellsOfLeading file.now list marks.now (spots_below leaf.page leaf.count))) }
     ensures before { KeepsItsPages P.has pages.old pages.new }
 {
     for place in 0..leaf.count {
@@ -114,7 +115,7 @@ fn check_leaf<P: LentPages>(
             place,
         };
         if !leads_to_row(pages, file, marks, spot) {
-            return Err(RowFault::of_entry(spot));
+            return Err(entry_of_no_row(spot));
         }
     }
     Ok(())
@@ -127,15 +128,14 @@ fn check_leaves<P: LentPages>(
     file: &OpenFile,
     marks: &[bool],
     primes: &[Leaf],
-) -> Result<(), RowFault>
+) -> Result<(), WalkFault>
     requires { IsShaped file.now }
     ensures lead { OfItsPages P.has pages.new
         (λ list. OnOk result (All (OfEachEntry (LeadsToRow file.now list marks.now)) primes.now)) }
     ensures refused { OfItsPages P.has pages.new
         (λ list. OnErr result (Each (LeadsAhead file.now list marks.now) (spots_in primes.now) → ⊥)) }
     ensures told { OfItsPages P.has pages.new
-        (λ list. IfErr result (TellsOfRows (IsEntryFault (spots_in primes.now)
-        (LeadsAhead file.now list marks.now)))) }
+        (λ list. IfErr result (TellsOfLeading file.now list marks.now (spots_in primes.now))) }
     ensures before { KeepsItsPages P.has pages.old pages.new }
 {
     for &leaf in primes {
@@ -151,18 +151,13 @@ fn compare<P: LentPages>(
     own: &[u32],
     primes: &[Leaf],
     marks: &mut [bool],
-) -> Result<(), RowFault>
+) -> Result<(), WalkFault>
     requires shaped { IsShaped file.now }
     requires none { (n : ℕ) → marked_in marks.old n ≡ false }
     requires may { OfItsPages P.has pages.old
         (λ list. MayCompareRows file.now list (spots_in primes.now) marks.old) }
-    ensures stand { OfItsPages P.has pages.new
-        (λ list. OnOk result (RowsStand file.now list own.now (spots_in primes.now))) }
-    ensures refused { OfItsPages P.has pages.new
-        (λ list. OnErr result (RowsAhead file.now list own.now primes.now → ⊥)) }
-    ensures told { OfItsPages P.has pages.new
-        (λ list. IfErr result (λ fault. Each (IsPrimeLeaf file.now list) primes.now
-        → TellsOfRows (IsRowFault file.now list own.now primes.now) fault)) }
+    ensures compares { OfItsPages P.has pages.new
+        (λ list. ComparesRows (pages_read file.now list primes.now) own.now result) }
     ensures before { KeepsItsPages P.has pages.old pages.new }
 {
     mark_all(marks, own);
@@ -184,18 +179,13 @@ pub fn check_rows<P: LentPages>(
     file: &OpenFile,
     own: &[u32],
     primes: &[Leaf],
-) -> Result<(), RowFault>
+) -> Result<(), WalkFault>
     requires shaped { IsShaped file.now }
     requires counted { OfItsPages P.has pages.old (λ list. count ≡ length list) }
     requires rises { OfItsPages P.has pages.old
         (λ list. EntriesRise file.now list (spots_in primes.now)) }
-    ensures stand { OfItsPages P.has pages.new
-        (λ list. OnOk result (RowsStand file.now list own.now (spots_in primes.now))) }
-    ensures refused { OfItsPages P.has pages.new
-        (λ list. IfErr result (RefusesRows (RowsAhead file.now list own.now primes.now))) }
-    ensures told { OfItsPages P.has pages.new
-        (λ list. IfErr result (λ fault. Each (IsPrimeLeaf file.now list) primes.now
-        → TellsOfRows (IsRowFault file.now list own.now primes.now) fault)) }
+    ensures compares { OfItsPages P.has pages.new
+        (λ list. ComparesRows (pages_read file.now list primes.now) own.now result) }
     ensures before { KeepsItsPages P.has pages.old pages.new }
 {
     let mut marks = no_marks(alloc, count)?;

@@ -1,10 +1,8 @@
 //! What a slot holds, in the pages of a file.
 
-ghost use Rattle.std.specs.Prelude.{◌≡◌, ◌+◌, ◌≤◌, ◌<◌, IfSome, length, option_map};
-ghost use Rattle.std.specs.Option.{option_copied};
+ghost use Rattle.std.specs.Prelude.{◌≡◌, ◌<◌, IfSome, option_map};
 ghost use Rattle.std.specs.Borrow.{sem};
-ghost use Rattle.record_heap.specs.Slot.{room, size, length_in_slot, used_in};
-ghost use Rattle.record_heap.specs.Slots.{slot_at};
+ghost use Rattle.record_heap.specs.Slot.{room};
 ghost use Rattle.record_heap.specs.Standing.{slot_shape};
 ghost use Rattle.open_file.specs.Stands.{IsShaped};
 ghost use Rattle.open_file.specs.Fields.{heap_of};
@@ -16,60 +14,12 @@ ghost use Rattle.pages.specs.Source.{KeepsItsPages, OfItsPages};
 use crate::entry::bytes_fit;
 use crate::lent_pages::LentPages;
 use crate::row::value;
-use byteorder::{BigEndian, ByteOrder};
 use open_file::OpenFile;
-use pages::PAGE_SIZE;
-use record_heap::{Place, SlotShape};
+use record_heap::Place;
+use record_heap::slot::used;
+use record_heap::slots::slot;
 use tree_node::Entry;
 use tree_search::fill;
-
-/// The mark of a slot in use.
-const USED: u8 = 1;
-
-/// The length of a record, where lengths vary.
-const LENGTH: usize = 1;
-
-/// Where the slots begin.
-const FIRST_SLOT: usize = 16;
-
-/// The length of the record in a slot in use.
-fn record_length(slot: &[u8], shape: SlotShape) -> usize
-    requires { size shape ≤ length slot.now }
-    ensures { result ≡ length_in_slot shape slot.now }
-{
-    if shape.least < shape.greatest {
-        BigEndian::read_u16(&slot[LENGTH..]) as usize
-    } else {
-        shape.greatest as usize
-    }
-}
-
-/// The stamps and the record in a slot, where it is in use.
-fn stored_in<'a>(slot: &'a [u8], shape: SlotShape) -> Option<&'a [u8]>
-    requires { size shape ≤ length slot.now }
-    ensures value { option_copied result ≡ used_in shape slot.now }
-    ensures least { IfSome result (λ stored. shape.stamps + shape.least ≤ length stored.now) }
-    ensures greatest { IfSome result (λ stored. length stored.now ≤ shape.stamps + shape.greatest) }
-{
-    let record = record_length(slot, shape);
-    let is_long = shape.least as usize <= record && record <= shape.greatest as usize;
-    if slot[0] != USED || !is_long {
-        return None;
-    }
-    let head = shape.head();
-    Some(&slot[head..head + (shape.stamps as usize + record)])
-}
-
-/// The bytes of slot `i`.
-fn slot(page: &[u8; PAGE_SIZE], shape: SlotShape, i: usize) -> &[u8]
-    requires { i < room shape }
-    ensures value { result.now ≡ slot_at shape page.now i }
-    ensures len { length result.now ≡ size shape }
-{
-    let size = shape.size();
-    let at = FIRST_SLOT + i * size;
-    &page[at..at + size]
-}
 
 /// The stamps and the record at a place, where it is in use, in its page, which is lent.
 pub fn stored_at<'a, P: LentPages>(
@@ -88,7 +38,7 @@ pub fn stored_at<'a, P: LentPages>(
         return None;
     }
     let page = pages.lend(place.page)?;
-    let stored = stored_in(slot(page, shape, i), shape)?;
+    let stored = used(slot(page, shape, i), shape)?;
     bytes_fit(stored);
     Some(stored)
 }

@@ -17,6 +17,7 @@ use page_store::Shelf;
 use pages::{PAGE_SIZE, PageSource};
 use std::alloc::Global;
 use std::marker::PhantomData;
+use std::num::NonZeroUsize;
 
 /// The first pages of the file of a unit, so many, each of which is read when it is asked for and no
 /// frame has it.
@@ -37,8 +38,15 @@ pub struct UnitPages<S: Shelf, A: UnitAsked> {
 }
 
 impl<S: Shelf, A: UnitAsked> UnitPages<S, A> {
-    /// The pages of a unit, of which there are so many. Where memory is wanting, no page is kept.
-    pub fn new(alloc: Global, shelf: S, unit: usize, count: u32) -> UnitPages<S, A>
+    /// The pages of a unit, of which there are so many. No more than `frames` are kept, and none
+    /// where memory is wanting.
+    pub fn new(
+        alloc: Global,
+        shelf: S,
+        unit: usize,
+        count: u32,
+        frames: NonZeroUsize,
+    ) -> UnitPages<S, A>
         requires holds { HasUnitWith (S.state shelf) unit (HoldsPages count) }
         requires unit { unit ≡ A.unit }
         requires count { count ≡ A.count }
@@ -50,7 +58,7 @@ impl<S: Shelf, A: UnitAsked> UnitPages<S, A> {
             unit,
             count,
             has_failed: false,
-            frames: no_frames(alloc, count),
+            frames: no_frames(alloc, count, frames),
             last: [0; PAGE_SIZE],
             asked: PhantomData,
         }

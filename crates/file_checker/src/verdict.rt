@@ -1,12 +1,14 @@
 //! What a check answers.
 
+use pages::{Damage, FaultPlace};
 use thiserror::Error;
 
-/// What a file is: one of so many records in so many pages, the first page among them, or not sound.
+/// What a file is: one of so many records in so many pages, the first page among them, or not
+/// sound, and where that was met. The place of the first three reasons is the file as a whole.
 #[derive(Clone, Copy, Debug, PartialEq, Eq)]
 pub enum Verdict {
     Sound { records: u64, pages: u32 },
-    Unsound(Reason),
+    Unsound(Reason, FaultPlace),
 }
 
 /// Why a file is not sound. The first three are told in this order, before all others; of the
@@ -36,6 +38,21 @@ pub enum Reason {
 impl Reason {
     ghost use Rattle.std.specs.Prelude.{◌≡◌};
     ghost use Rattle.file_checker.specs.Numbers.{number_of};
+    ghost use Rattle.file_checker.specs.Reasons.{reason_of};
+
+    /// The reason by which damage is told.
+    pub fn of_damage(damage: Damage) -> Reason
+        ensures { result ≡ reason_of damage }
+    {
+        match damage {
+            Damage::Shared => Reason::Shared,
+            Damage::Node => Reason::Node,
+            Damage::Order => Reason::Order,
+            Damage::Heap => Reason::Heap,
+            Damage::Index => Reason::Index,
+            Damage::Lost => Reason::Lost,
+        }
+    }
 
     /// Its number, from 1 on.
     pub fn number(self) -> u8

@@ -7,8 +7,8 @@ use Rattle.pages.specs.Each.{Each}
 use Rattle.pages.specs.Owners.{IsOutside}
 use Rattle.pages.specs.declared.fault_place.FaultPlace.{FaultPlace}
 use Rattle.pages.specs.declared.fault_place.FaultPlace.TheVariants.{Page}
-use Rattle.pages.specs.declared.page_fault.PageFault.{PageFault}
-use Rattle.pages.specs.declared.page_fault.PageFault.TheVariants.{Shared, Node, Order, Chain, Count}
+use Rattle.pages.specs.declared.damage.Damage.{Damage}
+use Rattle.pages.specs.declared.damage.Damage.TheVariants.{Shared, Node, Order, Heap as BrokenHeap, Index, Lost}
 use Rattle.pages.specs.declared.walk_fault.WalkFault.{WalkFault}
 use Rattle.pages.specs.declared.walk_fault.WalkFault.TheVariants.{Memory, At}
 use Rattle.pages.specs.Marks.{IsUnmarked, marked_in}
@@ -63,7 +63,7 @@ module _ (list : List (List ℕ)) (first from at : ℕ) (marks now : List Bool) 
   -- a page that another page leads to
   pub tells_page : (fault : WalkFault) → TellsOfPage list from at fault → TellsOfFault (IsChainFault list first marks) fault
   tells_page fault (inl h) = subst (TellsOfFault (IsChainFault list first marks)) (sym h.0)
-      (own, at, walked.path, some, inl (inl (subst (λ (n : ℕ). At Chain (Page from) ≡ At Chain (Page n)) (sym last) refl, h.1)))
+      (own, at, walked.path, some, inl (inl (subst (λ (n : ℕ). At BrokenHeap (Page from) ≡ At BrokenHeap (Page n)) (sym last) refl, h.1)))
   tells_page fault (inr h) = subst (TellsOfFault (IsChainFault list first marks)) (sym h.0) (own, at, walked.path, some, inl (inr (refl, h.1, h.2)))
 
   -- a page that has its mark
@@ -76,7 +76,7 @@ module _ (list : List (List ℕ)) (first from at : ℕ) (marks now : List Bool) 
       among free (inr out) = absurd (never (subst (λ (n : ℕ). at < n) (sym long) free.0, walked.marks.others at out ∙ free.1))
 
   -- a page behind as many as there are marks
-  pub tells_too_many : (fault : WalkFault) → fault ≡ At Chain (Page from) → length own ≡ length marks → TellsOfFault (IsChainFault list first marks) fault
+  pub tells_too_many : (fault : WalkFault) → fault ≡ At BrokenHeap (Page from) → length own ≡ length marks → TellsOfFault (IsChainFault list first marks) fault
   tells_too_many fault is all = subst (TellsOfFault (IsChainFault list first marks)) (sym is)
       (own, at, walked.path, some, inr (all, subst (λ (n : ℕ). Page from ≡ Page n) (sym last) refl))
 
@@ -84,7 +84,7 @@ module _ (list : List (List ℕ)) (first from at : ℕ) (marks now : List Bool) 
 
 -- a slot of a page that is neither free nor in use
 pub wrong_of_page : (shape : SlotShape) (page : List ℕ) (n : ℕ) (marks now : SlotMarks) (place : Place) (fault : WalkFault) → place.page ≡ n → place.slot < room shape → SameSlots marks now
-    → fault ≡ At Chain (slot_place place) → RefusesRightly (HasMark now place × IsFreeOrUsed shape (slot_at shape page place.slot)) fault → TellsOfChain (IsWrongOfPage shape page n marks) fault
+    → fault ≡ At BrokenHeap (slot_place place) → RefusesRightly (HasMark now place × IsFreeOrUsed shape (slot_at shape page place.slot)) fault → TellsOfChain (IsWrongOfPage shape page n marks) fault
 wrong_of_page shape page n marks now place fault on within same is never = subst (TellsOfChain (IsWrongOfPage shape page n marks)) (sym is) (
   refl,
   record {
@@ -147,7 +147,7 @@ module _ (shape : SlotShape) (list : List (List ℕ)) (first : Place) (marks now
       (refl, link (slot_place at) (inr (inr (refl, h.1, walked.only at h.1 h.2, h.3))))
 
   -- a slot behind as many as there are marks
-  pub tells_many_slots : (fault : WalkFault) → fault ≡ At Chain from → length free ≡ marks.slots → TellsOfChain (IsLinkFault shape list first marks) fault
+  pub tells_many_slots : (fault : WalkFault) → fault ≡ At BrokenHeap from → length free ≡ marks.slots → TellsOfChain (IsLinkFault shape list first marks) fault
   tells_many_slots fault is all = subst (TellsOfChain (IsLinkFault shape list first marks)) (sym is) (refl, link from (inr (inl (sym last, all))))
 
 -- a slot is one of these, or it is not
@@ -231,12 +231,13 @@ path_inside list first at [] path = tt
 path_inside list first at (n ∷ ns) path = (page_inside list n path.1.1.bytes path.1.1.there, path_inside list path.1.0 at ns path.1.2)
 
 module _ (heap : Heap) (list : List (List ℕ)) (marks : List Bool) where
-  pub in_chain : (what : PageFault) (place : FaultPlace) → IsChainFault list heap.first marks what place → IsHeapFault heap list marks what place
+  pub in_chain : (what : Damage) (place : FaultPlace) → IsChainFault list heap.first marks what place → IsHeapFault heap list marks what place
   in_chain Shared place h = h
-  in_chain Chain place h = inl h
+  in_chain BrokenHeap place h = inl h
   in_chain Node place h = h.4
   in_chain Order place h = h.4
-  in_chain Count place h = h.4
+  in_chain Index place h = h.4
+  in_chain Lost place h = h.4
 
   pub own_pages : (now : List Bool) (own : List ℕ) → PagesWalked (pages_in list) heap.first 0 (marked_in marks) (marked_in now) own → AreOwnPages list own
   own_pages now own walked = record { there = path_inside list heap.first 0 own walked.path; apart = walked.marks.apart }
@@ -244,7 +245,7 @@ module _ (heap : Heap) (list : List (List ℕ)) (marks : List Bool) where
   pub in_heap : (now : List Bool) (own : List ℕ) (fault : WalkFault) → PagesWalked (pages_in list) heap.first 0 (marked_in marks) (marked_in now) own → TellsOfChain (IsSlotFault heap list own) fault
       → TellsOfFault (IsHeapFault heap list marks) fault
   in_heap now own Memory walked h = tt
-  in_heap now own (At what place) walked h = subst (λ (f : PageFault). IsHeapFault heap list marks f place) (sym h.0) (inr (record {
+  in_heap now own (At what place) walked h = subst (λ (f : Damage). IsHeapFault heap list marks f place) (sym h.0) (inr (record {
     own = own;
     chain = path_ends (pages_in list) heap.first own walked.path;
     pages = own_pages now own walked;

@@ -1,7 +1,6 @@
 -- Counting equal values that stand together.
-use Rattle.std.proofs.Common.{◌≡◌, ℕ, zero, suc, ◌+◌, ◌<◌, ◌≤◌, ◌^◌, Bool, true, false, List, [], ◌∷◌, ◌++◌, length, take, drop, max, Some, None, refl, ap, sym, ◌∙◌, arith, subst, slice_index_or, ◌⊎◌, inl, inr, ◌-◌}
+use Rattle.std.proofs.Common.{◌≡◌, ℕ, zero, suc, ◌+◌, ◌<◌, ◌≤◌, ◌^◌, Bool, true, false, List, [], ◌∷◌, ◌++◌, length, take, drop, max, min, Some, None, refl, ap, sym, ◌∙◌, arith, subst, slice_index_or, ◌⊎◌, inl, inr, ◌-◌}
 use Rattle.std.specs.Prelude.{bytes_eq}
-use Rattle.std.specs.Option.{option_copied}
 use Rattle.std.proofs.Math.Nat.{le-max_left, le-max_right, max-eq_left, max-eq_right}
 use Rattle.std.proofs.Math.Seq.{take-suc}
 use Rattle.std.proofs.lemmas.List.{length-append, length-map, length-take-le, append_assoc, map-append, append-nil, take-append-drop, take_all}
@@ -13,7 +12,7 @@ use Rattle.tree_search.specs.Calls.{last_of}
 use Rattle.tree_search.proofs.SearchLemmas.{last_index}
 use Rattle.page_walks.specs.declared.runs.Run.{Run}
 use Rattle.page_walks.specs.Rows.{page_at, entries_in_row}
-use Rattle.page_walks.specs.Runs.{values_of, count_of_value, AreTogether, RunOf, CanGoOn}
+use Rattle.page_walks.specs.Runs.{values_of, count_of_value, AreTogether, RunOf, last_in, TakesValues}
 
 abbrev pub one_if : Bool → ℕ
 one_if true = 1
@@ -100,7 +99,7 @@ new_in xs x together some =
     last_index xs n back ∙ ap Some (sym at_n ∙ same ∙ end)
 
 -- one value more
-pub run_more : (xs : List (List ℕ)) (x : List ℕ) (run new : Run) → RunOf xs run → new.length ≡ count_of_value x xs + 1 → option_copied new.last ≡ Some x
+pub run_more : (xs : List (List ℕ)) (x : List ℕ) (run new : Run) → RunOf xs run → new.length ≡ count_of_value x xs + 1 → last_in new ≡ Some x
     → new.longest ≡ max run.longest new.length → RunOf (xs ++ x ∷ []) new
 run_more xs x run new so_far many last longest =
     let left = le-max_left run.longest new.length in
@@ -159,32 +158,36 @@ run_more xs x run new so_far many last longest =
             omega (arith, m, one, old, longest, top)
 
 -- the length of the run that goes on, and of one that begins
-pub goes_on : (xs : List (List ℕ)) (x : List ℕ) (run : Run) → RunOf xs run → option_copied run.last ≡ Some x → run.length ≡ count_of_value x xs
+pub goes_on : (xs : List (List ℕ)) (x : List ℕ) (run : Run) → RunOf xs run → last_in run ≡ Some x → run.length ≡ count_of_value x xs
 goes_on xs x run so_far last = so_far.length_is x (sym so_far.last ∙ last)
 
-pub begins : (xs : List (List ℕ)) (x : List ℕ) (run : Run) → RunOf xs run → AreTogether (xs ++ x ∷ []) → (option_copied run.last ≡ Some x → ⊥) → count_of_value x xs ≡ 0
+pub begins : (xs : List (List ℕ)) (x : List ℕ) (run : Run) → RunOf xs run → AreTogether (xs ++ x ∷ []) → (last_in run ≡ Some x → ⊥) → count_of_value x xs ≡ 0
 begins xs x run so_far together other = by_count (count_of_value x xs) refl
   where
     by_count : (n : ℕ) → count_of_value x xs ≡ n → count_of_value x xs ≡ 0
     by_count zero is = is
     by_count (suc n) is = absurd (other (so_far.last ∙ new_in xs x together (omega arith)))
 
-pub run_short : (xs : List (List ℕ)) (x : List ℕ) (run : Run) → RunOf xs run → option_copied run.last ≡ Some x → length (xs ++ x ∷ []) < 2 ^ 64 → run.length + 1 < 2 ^ 64
+pub run_short : (xs : List (List ℕ)) (x : List ℕ) (run : Run) → RunOf xs run → last_in run ≡ Some x → length (xs ++ x ∷ []) < 2 ^ 64 → run.length + 1 < 2 ^ 64
 run_short xs x run so_far last few =
     let is = goes_on xs x run so_far last in
     let long = length-append xs (x ∷ []) in
     let n = count_long x xs in
     omega (arith, is, long, n, few)
 
+-- what is counted stays below the greatest number
+pub not_saturated : (n : ℕ) → n + 1 < 2 ^ 64 → min (n + 1) (2 ^ 64 - 1) ≡ n + 1
+not_saturated n small = omega (arith, small)
+
 -- what is known behind a value that is the last one or not
-pub run_same : (xs : List (List ℕ)) (x : List ℕ) (run new : Run) → RunOf xs run → option_copied run.last ≡ Some x → new.length ≡ run.length + 1 → option_copied new.last ≡ Some x
+pub run_same : (xs : List (List ℕ)) (x : List ℕ) (run new : Run) → RunOf xs run → last_in run ≡ Some x → new.length ≡ run.length + 1 → last_in new ≡ Some x
     → new.longest ≡ max run.longest new.length → RunOf (xs ++ x ∷ []) new
 run_same xs x run new so_far same many last longest =
     let is = goes_on xs x run so_far same in
     run_more xs x run new so_far (omega (arith, is, many)) last longest
 
-pub run_other : (xs : List (List ℕ)) (x : List ℕ) (run new : Run) → RunOf xs run → AreTogether (xs ++ x ∷ []) → (option_copied run.last ≡ Some x → ⊥) → new.length ≡ 1
-    → option_copied new.last ≡ Some x → new.longest ≡ max run.longest new.length → RunOf (xs ++ x ∷ []) new
+pub run_other : (xs : List (List ℕ)) (x : List ℕ) (run new : Run) → RunOf xs run → AreTogether (xs ++ x ∷ []) → (last_in run ≡ Some x → ⊥) → new.length ≡ 1
+    → last_in new ≡ Some x → new.longest ≡ max run.longest new.length → RunOf (xs ++ x ∷ []) new
 run_other xs x run new so_far together other many last longest =
     let is = begins xs x run so_far together other in
     run_more xs x run new so_far (omega (arith, is, many)) last longest
@@ -209,7 +212,8 @@ values_whole width es i m before e inside together =
 
 -- so far the values before a leaf, and those of its first entries, wherever it stands
 abbrev pub SoFar : ℕ → List (List ℕ) → Run → ℕ → Run → Type 0
-SoFar width es start i run = (values : List (List ℕ)) → RunOf values start → AreTogether (values ++ values_of width es) → RunOf (values ++ values_of width (take i es)) run
+SoFar width es start i run = (values : List (List ℕ)) → RunOf values start → AreTogether (values ++ values_of width es) → length (values ++ values_of width es) < 2 ^ 64
+    → RunOf (values ++ values_of width (take i es)) run
 
 values_few : (width : ℕ) (es before : List (List ℕ)) (x : List ℕ) (i : ℕ) → i < length es → length (before ++ values_of width es) < 2 ^ 64
     → length ((before ++ values_of width (take i es)) ++ x ∷ []) < 2 ^ 64
@@ -223,33 +227,23 @@ values_few width es before x i inside few =
     let f = length-take-le i es (omega arith) in
     omega (arith, a, b, c, d, e, f, few)
 
-pub entry_goes_on : (width : ℕ) (es : List (List ℕ)) (i : ℕ) (start run : Run) (x : List ℕ) → i < length es → x ≡ take width (slice_index_or es i [])
-    → CanGoOn start (values_of width es) → SoFar width es start i run → CanGoOn run (x ∷ [])
-entry_goes_on width es i start run x inside is go so_far = record {
-  values = go.values ++ values_of width (take i es);
-  so_far = so_far go.values go.so_far go.together;
-  together = rw is (values_whole width es i (suc i) go.values refl inside go.together);
-  few = values_few width es go.values x i inside go.few;
-}
-
 pub entry_more : (width : ℕ) (es : List (List ℕ)) (i m : ℕ) (start run new : Run) (x : List ℕ) → m ≡ suc i → i < length es → x ≡ take width (slice_index_or es i [])
-    → SoFar width es start i run → ((values : List (List ℕ)) → RunOf values run → AreTogether (values ++ x ∷ []) → RunOf (values ++ x ∷ []) new) → SoFar width es start m new
-entry_more width es i m start run new x e inside is so_far adds values begun together =
+    → SoFar width es start i run → TakesValues (x ∷ []) run new → SoFar width es start m new
+entry_more width es i m start run new x e inside is so_far adds values begun together few =
     let front = values_of width (take i es) in
     let last = take width (slice_index_or es i []) in
     let whole = values_whole width es i (suc i) values refl inside together in
-    let done = adds (values ++ front) (so_far values begun together) (subst (λ (y : List ℕ). AreTogether ((values ++ front) ++ y ∷ [])) (sym is) whole) in
+    let done = adds (values ++ front) (so_far values begun together few) (subst (λ (y : List ℕ). AreTogether ((values ++ front) ++ y ∷ [])) (sym is) whole) (values_few width es values x i inside few) in
     let all : (values ++ front) ++ x ∷ [] ≡ values ++ values_of width (take m es) =
     ap (λ (y : List ℕ). (values ++ front) ++ y ∷ []) is ∙ append_assoc values front (last ∷ []) ∙ ap (λ (l : List (List ℕ)). values ++ l) (sym (values_more width es i m e inside)) in
     subst (λ (l : List (List ℕ)). RunOf l new) all done
 
-pub leaf_done : (width : ℕ) (es : List (List ℕ)) (n : ℕ) (start run : Run) → n ≡ length es → SoFar width es start n run
-    → (values : List (List ℕ)) → RunOf values start → AreTogether (values ++ values_of width es) → RunOf (values ++ values_of width es) run
-leaf_done width es n start run e so_far values begun together =
-    subst (λ (l : List (List ℕ)). RunOf (values ++ values_of width l) run) (take_all n es (omega arith)) (so_far values begun together)
+pub leaf_done : (width : ℕ) (es : List (List ℕ)) (n : ℕ) (start run : Run) → n ≡ length es → SoFar width es start n run → TakesValues (values_of width es) start run
+leaf_done width es n start run e so_far values begun together few =
+    subst (λ (l : List (List ℕ)). RunOf (values ++ values_of width l) run) (take_all n es (omega arith)) (so_far values begun together few)
 
 -- nothing so far
-pub run_none : (run : Run) → option_copied run.last ≡ None → run.longest ≡ 0 → RunOf [] run
+pub run_none : (run : Run) → last_in run ≡ None → run.longest ≡ 0 → RunOf [] run
 run_none run none zero' = record {
   last = none;
   length_is = λ v e. absurd (let no : None ≡ Some v = e in cc);
@@ -274,26 +268,18 @@ module _ (width : ℕ) (shape : NodeShape) (list : List (List ℕ)) (row : List 
       ∙ map-append (take width) (entries_in_row shape list (take m row)) (entries_in_row shape list (drop m row))
       ∙ ap (λ (l : List (List ℕ)). l ++ values_of width (entries_in_row shape list (drop m row))) (leaf_values k m e inside)
 
-  pub leaf_goes_on : (k : ℕ) (run : Run) → k < length row → length (entries_in_row shape list row) < 2 ^ 64 → AreTogether (values_of width (entries_in_row shape list row))
-      → RunOf (values_of width (entries_in_row shape list (take k row))) run → CanGoOn run (values_of width (leaf_entries shape (page_at list (slice_index_or row k 0))))
-  leaf_goes_on k run inside few together so_far =
-      let front = values_of width (entries_in_row shape list (take k row)) in
-      let here = values_of width (leaf_entries shape (page_at list (slice_index_or row k 0))) in
-      let back = values_of width (entries_in_row shape list (drop (suc k) row)) in
-      let all = whole_values k (suc k) refl inside in
-      let a = ap length all in
-      let b = length-append (front ++ here) back in
-      let c = length-map (entries_in_row shape list row) (take width) in
-      record { values = front; so_far = so_far; together = together_front (front ++ here) back (subst AreTogether all together); few = omega (arith, a, b, c, few) }
-
-  pub leaf_adds : (k m : ℕ) (run new : Run) → m ≡ suc k → k < length row → AreTogether (values_of width (entries_in_row shape list row))
+  pub leaf_adds : (k m : ℕ) (run new : Run) → m ≡ suc k → k < length row → length (entries_in_row shape list row) < 2 ^ 64
+      → AreTogether (values_of width (entries_in_row shape list row))
       → RunOf (values_of width (entries_in_row shape list (take k row))) run
-      → ((values : List (List ℕ)) → RunOf values run → AreTogether (values ++ values_of width (leaf_entries shape (page_at list (slice_index_or row k 0))))
-      → RunOf (values ++ values_of width (leaf_entries shape (page_at list (slice_index_or row k 0)))) new)
+      → TakesValues (values_of width (leaf_entries shape (page_at list (slice_index_or row k 0)))) run new
       → RunOf (values_of width (entries_in_row shape list (take m row))) new
-  leaf_adds k m run new e inside together so_far adds =
+  leaf_adds k m run new e inside few together so_far adds =
       let front = values_of width (entries_in_row shape list (take k row)) in
       let here = values_of width (leaf_entries shape (page_at list (slice_index_or row k 0))) in
       let back = values_of width (entries_in_row shape list (drop m row)) in
+      let all = whole_values k m e inside in
+      let a = ap length all in
+      let b = length-append (front ++ here) back in
+      let c = length-map (entries_in_row shape list row) (take width) in
       subst (λ (l : List (List ℕ)). RunOf l new) (sym (leaf_values k m e inside))
-      (adds front so_far (together_front (front ++ here) back (subst AreTogether (whole_values k m e inside) together)))
+      (adds front so_far (together_front (front ++ here) back (subst AreTogether all together)) (omega (arith, a, b, c, few)))

@@ -5,8 +5,8 @@ use Rattle.std.proofs.lemmas.Bool.{eqb-true, eqb-false}
 use Rattle.std.proofs.lemmas.List.{length-map}
 use Rattle.pages.specs.declared.fault_place.FaultPlace.{FaultPlace}
 use Rattle.pages.specs.declared.fault_place.FaultPlace.TheVariants.{Page}
-use Rattle.pages.specs.declared.page_fault.PageFault.{PageFault}
-use Rattle.pages.specs.declared.page_fault.PageFault.TheVariants.{Shared, Node, Order, Chain, Count}
+use Rattle.pages.specs.declared.damage.Damage.{Damage}
+use Rattle.pages.specs.declared.damage.Damage.TheVariants.{Shared, Node, Order, Heap, Index, Lost}
 use Rattle.pages.specs.Marks.{IsUnmarked, Marks, marked_in}
 use Rattle.pages.specs.PageList.{pages_in}
 use Rattle.tree_node.specs.declared.shape.NodeShape.{NodeShape}
@@ -57,13 +57,14 @@ module _ (shape : NodeShape) (list : List (List ℕ)) (at : NodePlace) where
   pub reached_before : (marks : List Bool) → at.page < length list → (IsUnmarked marks at.page → ⊥) → IsSomewhereBelow shape list at marks Shared (Page at.page)
   reached_before marks inside never = ([], tt, (refl, inside, λ free. absurd (never free)))
 
-  pub wrong_there : (marks : List Bool) → at.page < length list → (fault : PageFault) (place : FaultPlace) → IsNodeFault shape (bytes_there list at) at fault place
+  pub wrong_there : (marks : List Bool) → at.page < length list → (fault : Damage) (place : FaultPlace) → IsNodeFault shape (bytes_there list at) at fault place
       → IsSomewhereBelow shape list at marks fault place
   wrong_there marks inside Shared place h = absurd h
   wrong_there marks inside Node place h = ([], tt, inr (inside, h))
   wrong_there marks inside Order place h = ([], tt, (inside, h))
-  wrong_there marks inside Chain place h = absurd h
-  wrong_there marks inside Count place h = absurd h
+  wrong_there marks inside Heap place h = absurd h
+  wrong_there marks inside Index place h = absurd h
+  wrong_there marks inside Lost place h = absurd h
 
   -- ---- the page of the node is marked
 
@@ -117,7 +118,7 @@ module _ (shape : NodeShape) (list : List (List ℕ)) (at : NodePlace) where
     not_both : (others is : List ℕ) → others ≢ is → (i ∷ others) ≢ (i ∷ is)
     not_both others is differ same = let tail : others ≡ is = cc same in differ tail
 
-    pub below_child : (before now : List Bool) → MarksFront shape list at i before now → (fault : PageFault) (place : FaultPlace)
+    pub below_child : (before now : List Bool) → MarksFront shape list at i before now → (fault : Damage) (place : FaultPlace)
         → IsSomewhereBelow shape list (child_place shape list at i) now fault place → IsSomewhereBelow shape list at before fault place
     below_child before now front Shared place h =
         let is = h.0 in
@@ -130,33 +131,36 @@ module _ (shape : NodeShape) (list : List (List ℕ)) (at : NodePlace) where
         again is n other (inr led) = (led.0, not_same led.0 is led.1, led.2)
     below_child before now front Node place h = (i ∷ h.0, (child, h.1), h.2)
     below_child before now front Order place h = (i ∷ h.0, (child, h.1), h.2)
-    below_child before now front Chain place h = absurd h.2
-    below_child before now front Count place h = absurd h.2
+    below_child before now front Heap place h = absurd h.2
+    below_child before now front Index place h = absurd h.2
+    below_child before now front Lost place h = absurd h.2
 
 -- ---- leaves and inner nodes
 
-pub leaf_there : (shape : NodeShape) (bytes : List ℕ) (levels page : ℕ) (limits : Limits) → levels ≡ 0 → (fault : PageFault) (place : FaultPlace)
+pub leaf_there : (shape : NodeShape) (bytes : List ℕ) (levels page : ℕ) (limits : Limits) → levels ≡ 0 → (fault : Damage) (place : FaultPlace)
     → IsNodeFault shape bytes (node_place 0 page limits) fault place → IsNodeFault shape bytes (node_place levels page limits) fault place
 leaf_there shape bytes levels page limits none fault place h = subst (λ (k : ℕ). IsNodeFault shape bytes (node_place k page limits) fault place) (sym none) h
 
-pub inner_there : (shape : NodeShape) (bytes : List ℕ) (levels page : ℕ) (limits : Limits) → 1 ≤ levels → (fault : PageFault) (place : FaultPlace)
+pub inner_there : (shape : NodeShape) (bytes : List ℕ) (levels page : ℕ) (limits : Limits) → 1 ≤ levels → (fault : Damage) (place : FaultPlace)
     → IsNodeFault shape bytes (node_place 1 page limits) fault place → IsNodeFault shape bytes (node_place levels page limits) fault place
 inner_there shape bytes zero page limits some fault place h = absurd (omega arith)
 inner_there shape bytes (suc k) page limits some Shared place h = h
 inner_there shape bytes (suc k) page limits some Node place h = h
 inner_there shape bytes (suc k) page limits some Order place h = h
-inner_there shape bytes (suc k) page limits some Chain place h = h
-inner_there shape bytes (suc k) page limits some Count place h = h
+inner_there shape bytes (suc k) page limits some Heap place h = h
+inner_there shape bytes (suc k) page limits some Index place h = h
+inner_there shape bytes (suc k) page limits some Lost place h = h
 
 -- ---- the whole tree
 
-pub in_tree : (tree : Tree) (list : List (List ℕ)) (marks : List Bool) (fault : PageFault) (place : FaultPlace) → IsSomewhereBelow (tree_shape tree) list (root_place tree) marks fault place
+pub in_tree : (tree : Tree) (list : List (List ℕ)) (marks : List Bool) (fault : Damage) (place : FaultPlace) → IsSomewhereBelow (tree_shape tree) list (root_place tree) marks fault place
     → IsTreeFault tree list marks fault place
 in_tree tree list marks Shared place h = h
 in_tree tree list marks Node place h = h
 in_tree tree list marks Order place h = h
-in_tree tree list marks Chain place h = absurd h.2
-in_tree tree list marks Count place h = absurd h.2
+in_tree tree list marks Heap place h = absurd h.2
+in_tree tree list marks Index place h = absurd h.2
+in_tree tree list marks Lost place h = absurd h.2
 
 pub other_count : (tree : Tree) (list : List (List ℕ)) (floor : ℕ) (before after : List Bool) (spots : List LeafSpot) → (1 ≤ tree_levels tree → 1 ≤ floor)
     → Walked (tree_shape tree) (pages_in list) (tree_levels tree) (tree_root tree) floor None None (reach_of (tree_shape tree) list before []) (reach_of (tree_shape tree) list after spots)

@@ -6,8 +6,8 @@ use Rattle.page_alloc.specs.Chain.{chain, is_among}
 use Rattle.pages.specs.Each.{Each}
 use Rattle.pages.specs.declared.fault_place.FaultPlace.{FaultPlace}
 use Rattle.pages.specs.declared.fault_place.FaultPlace.TheVariants.{Page}
-use Rattle.pages.specs.declared.page_fault.PageFault.{PageFault}
-use Rattle.pages.specs.declared.page_fault.PageFault.TheVariants.{Shared, Node, Order, Chain, Count}
+use Rattle.pages.specs.declared.damage.Damage.{Damage}
+use Rattle.pages.specs.declared.damage.Damage.TheVariants.{Shared, Node, Order, Heap, Index, Lost}
 use Rattle.pages.specs.declared.walk_fault.WalkFault.{WalkFault}
 use Rattle.pages.specs.declared.walk_fault.WalkFault.TheVariants.{At}
 use Rattle.pages.specs.Marks.{IsUnmarked, Marks}
@@ -63,23 +63,24 @@ pub record FreeFront (list : List (List ℕ)) (first from at count : ℕ)
 -- the page that leads to page n is told where n is none of the list, or page 0; or n is, where it is
 -- no free page
 abbrev pub TellsOfNext : List (List ℕ) → (from n : ℕ) → WalkFault → Type 0
-TellsOfNext list from n fault = ((fault ≡ At Chain (Page from)) × ((n ≡ 0) ⊎ (length list ≤ n)))
-    ⊎ ((fault ≡ At Chain (Page n)) × (n < length list) × (is_free (page_in list n) ≡ false))
+TellsOfNext list from n fault = ((fault ≡ At Heap (Page from)) × ((n ≡ 0) ⊎ (length list ≤ n)))
+    ⊎ ((fault ≡ At Heap (Page n)) × (n < length list) × (is_free (page_in list n) ≡ false))
 
 -- This is wrong behind free pages that lead from the first one to page n, of which there are to be so
 -- many: n had its mark before, or is one of them; it is none of the list, or no free page; or they are
 -- all, and it is not page 0.
-abbrev pub IsFaultBehind : List (List ℕ) → (count : ℕ) → List Bool → List ℕ → ℕ → PageFault → FaultPlace → Type 0
+abbrev pub IsFaultBehind : List (List ℕ) → (count : ℕ) → List Bool → List ℕ → ℕ → Damage → FaultPlace → Type 0
 IsFaultBehind list count marks own n Shared place = (place ≡ Page n) × (n < length list)
     × (length own < count) × (IsUnmarked marks n → is_among n own ≡ true)
-IsFaultBehind list count marks own n Chain place =
-    ((length own < count) × TellsOfNext list (last_page own) n (At Chain place))
+IsFaultBehind list count marks own n Heap place =
+    ((length own < count) × TellsOfNext list (last_page own) n (At Heap place))
     ⊎ ((length own ≡ count) × (n ≢ 0) × (place ≡ Page (last_page own)))
 IsFaultBehind list count marks own n Node place = ⊥
 IsFaultBehind list count marks own n Order place = ⊥
-IsFaultBehind list count marks own n Count place = ⊥
+IsFaultBehind list count marks own n Index place = ⊥
+IsFaultBehind list count marks own n Lost place = ⊥
 
 -- so it is with the free pages, some pages of the list having their marks before
-abbrev pub IsFreeFault : List (List ℕ) → (first count : ℕ) → List Bool → PageFault → FaultPlace → Type 0
+abbrev pub IsFreeFault : List (List ℕ) → (first count : ℕ) → List Bool → Damage → FaultPlace → Type 0
 IsFreeFault list first count marks fault place = (own : List ℕ) × (n : ℕ)
     × IsFreePagePath list first own n × IsFaultBehind list count marks own n fault place

@@ -1,6 +1,10 @@
 -- The levels of a tree over the pages of a file, as the pages of each level lead to those of the
 -- next. A row has the pages of one level, from left to right.
-use Rattle.std.specs.Prelude.{ℕ, zero, suc, ◌<◌, ◌^◌, List, [], ◌∷◌, length, flat_map, slice_index_or}
+use Rattle.std.specs.Prelude.{◌≡◌, ℕ, zero, suc, ◌<◌, ◌^◌, List, [], ◌∷◌, ◌++◌, length, flat_map, slice_index_or}
+use Rattle.std.specs.Prelude.{Result, IfErr, IfOk, OnOk}
+use Rattle.std.specs.Global.{Vec}
+use Rattle.pages.specs.Refused.{RefusesRightly}
+use Rattle.pages.specs.declared.walk_fault.WalkFault.{WalkFault}
 use Rattle.pages.specs.Each.{Each}
 use Rattle.tree_node.specs.declared.shape.NodeShape.{NodeShape}
 use Rattle.tree_node.specs.Leaf.{IsLeaf, leaf_entries, leaf_room}
@@ -32,10 +36,14 @@ separators_in shape list row = flat_map (λ n. separators shape (page_at list n)
 abbrev pub entries_in_row : NodeShape → List (List ℕ) → List ℕ → List (List ℕ)
 entries_in_row shape list row = flat_map (λ n. leaf_entries shape (page_at list n)) row
 
--- these pages are leaves, whose entries can be counted
-pub record AreFewLeaves (shape : NodeShape) (list : List (List ℕ)) (row : List ℕ) : Type 0 where
-  pub leaves : Each (IsLeafIn shape list) row
-  pub few : length (entries_in_row shape list row) < 2 ^ 64
+-- the entries of the leaves of a row can be counted
+abbrev pub AreFew : NodeShape → List (List ℕ) → List ℕ → Type 0
+AreFew shape list row = length (entries_in_row shape list row) < 2 ^ 64
+
+-- where the entries of the leaves of a row can be counted, so many they are
+abbrev pub CountsEntries : NodeShape → List ℕ → Result ℕ WalkFault → List (List ℕ) → Type 0
+CountsEntries shape row result list = AreFew shape list row
+    → IfOk result (λ entries. entries ≡ length (entries_in_row shape list row))
 
 -- a row with h levels below it leads to nodes, down to leaves
 abbrev pub AreNodes : NodeShape → List (List ℕ) → ℕ → List ℕ → Type 0
@@ -69,3 +77,12 @@ abbrev pub levels_in : NodeShape → List (List ℕ) → ℕ → List ℕ → Li
 levels_in shape list zero row = leaf_level shape list row ∷ []
 levels_in shape list (suc h) row = inner_level shape list row ∷ levels_in shape list h
     (children_in shape list row)
+
+-- what each row has was added, from this one down, and its leaves were given; or memory was lacking, or the
+-- rows lead to no such nodes
+pub record AddsRows (shape : NodeShape) (list : List (List ℕ)) (h : ℕ) (row : List ℕ) (old new : List Level)
+    (result : Result (Vec ℕ) WalkFault) : Type 0 where
+  pub levels : AreFew shape list (leaves_in shape list h row)
+      → OnOk result (new ≡ old ++ levels_in shape list h row)
+  pub leaves : IfOk result (λ leaves. leaves.items ≡ leaves_in shape list h row)
+  pub refused : IfErr result (RefusesRightly (AreNodes shape list h row))

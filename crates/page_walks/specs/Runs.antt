@@ -1,11 +1,11 @@
 -- How many of some values are equal at most, where equal ones stand together.
 use Rattle.std.specs.Prelude.{◌≡◌, ℕ, ◌≤◌, ◌<◌, ◌^◌, List, [], ◌++◌, length, map, take, filter, bytes_eq}
-use Rattle.std.specs.Prelude.{slice_index_or, Some}
-use Rattle.std.specs.Option.{option_copied}
+use Rattle.std.specs.Prelude.{slice_index_or, Option, Some, option_map}
+use Rattle.std.specs.Global.{Vec}
 use Rattle.tree_node.specs.declared.shape.NodeShape.{NodeShape}
-use Rattle.tree_node.specs.Leaf.{IsLeaf, leaf_entries}
 use Rattle.tree_search.specs.Calls.{last_of}
 use Rattle.tree_search.specs.Tree.{TreeOf, Bound, IsOrdered, entries_of}
+use Rattle.page_walks.specs.Rows.{AreFew, entries_in_row}
 use Rattle.page_walks.specs.declared.runs.Run.{Run}
 
 -- the values of entries: so many bytes, with which each begins
@@ -27,29 +27,27 @@ AreTogether values = (i j k : ℕ) → i ≤ j → j ≤ k → k < length values
     → slice_index_or values i [] ≡ slice_index_or values k []
     → slice_index_or values j [] ≡ slice_index_or values k []
 
+-- the last value so far
+abbrev pub last_in : Run → Option (List ℕ)
+last_in run = option_map (λ (bytes : Vec ℕ). bytes.items) run.last
+
 -- what is known of the values so far
 pub record RunOf (values : List (List ℕ)) (run : Run) : Type 0 where
-  pub last : option_copied run.last ≡ last_of values
+  pub last : last_in run ≡ last_of values
   pub length_is : (value : List ℕ) → last_of values ≡ Some value → run.length ≡ count_of_value value values
   pub longest : IsGreatestCount values run.longest
 
--- so, with these values more, where all stand together
+-- so, with these values more, where all stand together and can be counted
 abbrev pub TakesValues : (more : List (List ℕ)) → (old new : Run) → Type 0
 TakesValues more old new = (values : List (List ℕ)) → RunOf values old → AreTogether (values ++ more)
-    → RunOf (values ++ more) new
+    → length (values ++ more) < 2 ^ 64 → RunOf (values ++ more) new
 
--- so many more values can follow: those so far and these stand together, and can be counted
-pub record CanGoOn (run : Run) (more : List (List ℕ)) : Type 0 where
-  pub values : List (List ℕ)
-  pub so_far : RunOf values run
-  pub together : AreTogether (values ++ more)
-  pub few : length (values ++ more) < 2 ^ 64
-
--- so can those of a leaf's entries, each of which has as many bytes as a value
-pub record CanGoThrough (run : Run) (width : ℕ) (shape : NodeShape) (page : List ℕ) : Type 0 where
-  pub leaf : IsLeaf shape page
-  pub narrow : width ≤ shape.entry
-  pub go : CanGoOn run (values_of width (leaf_entries shape page))
+-- so many entries of these leaves have one value at most, where equal values stand together and the
+-- entries can be counted
+abbrev pub IsLongestRun : NodeShape → (width : ℕ) → List (List ℕ) → (leaves : List ℕ) → ℕ → Type 0
+IsLongestRun shape width list leaves longest = AreFew shape list leaves
+    → AreTogether (values_of width (entries_in_row shape list leaves))
+    → IsGreatestCount (values_of width (entries_in_row shape list leaves)) longest
 
 -- a tree whose keys rise keeps equal values together, where its keys begin with the values
 abbrev pub TreesKeepTogether : Type 0

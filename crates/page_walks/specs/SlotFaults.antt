@@ -2,7 +2,7 @@
 use Rattle.std.specs.Prelude.{◌≡◌, ◌≢◌, ◌⊎◌, ℕ, ◌<◌, true, List, length}
 use Rattle.pages.specs.Each.{Each}
 use Rattle.pages.specs.declared.fault_place.FaultPlace.{FaultPlace}
-use Rattle.pages.specs.declared.page_fault.PageFault.TheVariants.{Chain}
+use Rattle.pages.specs.declared.damage.Damage.TheVariants.{Heap}
 use Rattle.pages.specs.declared.walk_fault.WalkFault.{WalkFault}
 use Rattle.pages.specs.declared.walk_fault.WalkFault.TheVariants.{At}
 use Rattle.pages.specs.PageList.{pages_in}
@@ -16,7 +16,7 @@ use Rattle.record_heap.specs.Calls.{behind_at}
 use Rattle.page_walks.specs.SlotMarks.{HasMark, marked_slot}
 use Rattle.record_heap.specs.Walk.{IsFreeAt, IsFreeOrUsed, IsFreePath}
 use Rattle.page_walks.specs.SlotWalk.{IsMarkedFree}
-use Rattle.record_heap.specs.Faults.{last_slot_place, slot_place}
+use Rattle.record_heap.specs.Faults.{AreOwnPages, IsWrongSlot, TellsOfChain, last_slot_place, slot_place}
 
 -- slot p is neither free nor in use, where it has its mark, and is one of page n
 pub record IsWrongOfPage (shape : SlotShape) (page : List ℕ) (n : ℕ) (marks : SlotMarks)
@@ -27,10 +27,20 @@ pub record IsWrongOfPage (shape : SlotShape) (page : List ℕ) (n : ℕ) (marks 
   pub told : place ≡ slot_place slot
   pub wrong : HasMark marks slot → IsFreeOrUsed shape (slot_at shape page slot.slot) → ⊥
 
+-- each slot of these pages has its mark
+abbrev pub HaveMarks : SlotShape → (own : List ℕ) → SlotMarks → Type 0
+HaveMarks shape own marks = (p : Place) → IsOneOf own p.page → p.slot < room shape → HasMark marks p
+
+-- that memory ran out, or a slot of these pages that is neither free nor in use, where the pages are
+-- there, none of them twice, and have their marks
+abbrev pub TellsOfOwn : SlotShape → List (List ℕ) → (own : List ℕ) → SlotMarks → WalkFault → Type 0
+TellsOfOwn shape list own marks fault = AreOwnPages list own → HaveMarks shape own marks
+    → TellsOfChain (IsWrongSlot shape list own) fault
+
 -- the place that leads to a slot is told; or the slot is, where it has a mark and is not free
 abbrev pub TellsOfSlot : SlotShape → List (List ℕ) → SlotMarks → FaultPlace → Place → WalkFault → Type 0
-TellsOfSlot shape list marks from at fault = (fault ≡ At Chain from)
-    ⊎ ((fault ≡ At Chain (slot_place at)) × (at.slot < room shape) × (marked_slot marks at ≡ true)
+TellsOfSlot shape list marks from at fault = (fault ≡ At Heap from)
+    ⊎ ((fault ≡ At Heap (slot_place at)) × (at.slot < room shape) × (marked_slot marks at ≡ true)
     × (IsFreeAt shape (pages_in list) at → ⊥))
 
 -- This is wrong with a slot behind marked slots of a chain: it has no mark, or is one of them; or they

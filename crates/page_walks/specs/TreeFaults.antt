@@ -4,10 +4,12 @@ use Rattle.std.specs.Prelude.{slice_index_or, Some, None, ⊤}
 use Rattle.std.specs.Option.{option_copied}
 use Rattle.pages.specs.declared.fault_place.FaultPlace.{FaultPlace}
 use Rattle.pages.specs.declared.fault_place.FaultPlace.TheVariants.{Page, Entry}
-use Rattle.pages.specs.declared.page_fault.PageFault.{PageFault}
-use Rattle.pages.specs.declared.page_fault.PageFault.TheVariants.{Shared, Node, Order, Chain, Count}
+use Rattle.pages.specs.declared.damage.Damage.{Damage}
+use Rattle.pages.specs.declared.damage.Damage.TheVariants.{Shared, Node, Order, Heap, Index, Lost}
+use Rattle.pages.specs.declared.walk_fault.WalkFault.{WalkFault}
 use Rattle.pages.specs.Marks.{IsUnmarked}
 use Rattle.pages.specs.PageList.{pages_in}
+use Rattle.pages.specs.Told.{TellsOfFault}
 use Rattle.tree_node.specs.declared.shape.NodeShape.{NodeShape}
 use Rattle.tree_node.specs.Leaf.{IsLeaf, leaf_entries}
 use Rattle.tree_node.specs.Inner.{IsInner, separators, children}
@@ -124,14 +126,15 @@ IsKeyAstray shape bytes (suc k) low high i = IsAstray Above shape.width low high
 
 -- This is wrong with the bytes at a place: they are no such node, or one of its keys is not where it
 -- should be.
-abbrev pub IsNodeFault : NodeShape → List ℕ → NodePlace → PageFault → FaultPlace → Type 0
+abbrev pub IsNodeFault : NodeShape → List ℕ → NodePlace → Damage → FaultPlace → Type 0
 IsNodeFault shape bytes at Node place =
     (place ≡ Page at.page) × (IsNodeOf shape bytes at.levels at.least → ⊥)
 IsNodeFault shape bytes at Order place = IsNodeOf shape bytes at.levels at.least
     × ((i : ℕ) × (place ≡ Entry at.page i) × IsKeyAstray shape bytes at.levels at.low at.high i)
 IsNodeFault shape bytes at Shared place = ⊥
-IsNodeFault shape bytes at Chain place = ⊥
-IsNodeFault shape bytes at Count place = ⊥
+IsNodeFault shape bytes at Heap place = ⊥
+IsNodeFault shape bytes at Index place = ⊥
+IsNodeFault shape bytes at Lost place = ⊥
 
 -- other children lead to page n, too
 abbrev pub LeadsThereToo : NodeShape → List (List ℕ) → NodePlace → List ℕ → ℕ → Type 0
@@ -139,7 +142,7 @@ LeadsThereToo shape list at is n = (others : List ℕ) × (others ≢ is) × Lea
 
 -- This is wrong where these children lead: the page is none of the list, or has another fault; or it
 -- had its mark before, or other children lead there, too.
-abbrev pub IsFaultBelow : NodeShape → List (List ℕ) → NodePlace → List Bool → List ℕ → PageFault → FaultPlace → Type 0
+abbrev pub IsFaultBelow : NodeShape → List (List ℕ) → NodePlace → List Bool → List ℕ → Damage → FaultPlace → Type 0
 IsFaultBelow shape list at marks is Shared place =
     let n = (place_below shape list at is).page in
     (place ≡ Page n) × (n < length list) × (IsUnmarked marks n → LeadsThereToo shape list at is n)
@@ -150,13 +153,18 @@ IsFaultBelow shape list at marks is Node place =
 IsFaultBelow shape list at marks is Order place =
     let there = place_below shape list at is in
     (there.page < length list) × IsNodeFault shape (bytes_there list there) there Order place
-IsFaultBelow shape list at marks is Chain place = ⊥
-IsFaultBelow shape list at marks is Count place = ⊥
+IsFaultBelow shape list at marks is Heap place = ⊥
+IsFaultBelow shape list at marks is Index place = ⊥
+IsFaultBelow shape list at marks is Lost place = ⊥
 
 -- so it is somewhere below a place
-abbrev pub IsSomewhereBelow : NodeShape → List (List ℕ) → NodePlace → List Bool → PageFault → FaultPlace → Type 0
+abbrev pub IsSomewhereBelow : NodeShape → List (List ℕ) → NodePlace → List Bool → Damage → FaultPlace → Type 0
 IsSomewhereBelow shape list at marks fault place = (is : List ℕ) × AreChildren shape list at is
     × IsFaultBelow shape list at marks is fault place
+
+-- that memory ran out, or what is wrong there, and where
+abbrev pub TellsFaultBelow : NodeShape → List (List ℕ) → NodePlace → List Bool → WalkFault → Type 0
+TellsFaultBelow shape list at marks = TellsOfFault (IsSomewhereBelow shape list at marks)
 
 -- the tree stands, but for the number of its entries
 pub record HasOtherCount (tree : Tree) (list : List (List ℕ)) : Type 0 where
@@ -165,12 +173,13 @@ pub record HasOtherCount (tree : Tree) (list : List (List ℕ)) : Type 0 where
   pub other : length (entries_of (tree_levels tree) value) ≢ tree_count tree
 
 -- this is wrong with a tree, some pages of the list having their marks before
-abbrev pub IsTreeFault : Tree → List (List ℕ) → List Bool → PageFault → FaultPlace → Type 0
+abbrev pub IsTreeFault : Tree → List (List ℕ) → List Bool → Damage → FaultPlace → Type 0
 IsTreeFault tree list marks Shared place =
     IsSomewhereBelow (tree_shape tree) list (root_place tree) marks Shared place
 IsTreeFault tree list marks Node place =
     IsSomewhereBelow (tree_shape tree) list (root_place tree) marks Node place
 IsTreeFault tree list marks Order place =
     IsSomewhereBelow (tree_shape tree) list (root_place tree) marks Order place
-IsTreeFault tree list marks Chain place = ⊥
-IsTreeFault tree list marks Count place = (place ≡ Page (tree_root tree)) × HasOtherCount tree list
+IsTreeFault tree list marks Heap place = ⊥
+IsTreeFault tree list marks Lost place = ⊥
+IsTreeFault tree list marks Index place = (place ≡ Page (tree_root tree)) × HasOtherCount tree list

@@ -1,6 +1,6 @@
 -- What a walk finds of a tree.
 use Rattle.std.specs.Prelude.{◌≡◌, ℕ, zero, suc, ◌≤◌, Bool, List, [], ◌∷◌, ◌++◌, length, map, flat_map, take}
-use Rattle.std.specs.Prelude.{slice_index_or, Some, ⊤}
+use Rattle.std.specs.Prelude.{slice_index_or, Some, Result, OnOk, ⊤}
 use Rattle.std.specs.Option.{option_copied}
 use Rattle.pages.specs.Each.{Each}
 use Rattle.pages.specs.PageMap.{PageMap}
@@ -16,13 +16,14 @@ use Rattle.tree_search.specs.Tree.{IsOrdered}
 use Rattle.tree_search.specs.Stored.{Holds}
 use Rattle.bplus_tree.specs.Standing.{TreeStands}
 use Rattle.bplus_tree.specs.Fields.{tree_shape}
+use Rattle.pages.specs.declared.walk_fault.WalkFault.{WalkFault}
 use Rattle.pages.specs.Marks.{Marks, marked_in}
 use Rattle.pages.specs.PageList.{pages_in}
 use Rattle.page_walks.specs.declared.spot.LeafSpot.{LeafSpot}
 use Rattle.page_walks.specs.declared.leaf.Leaf.{Leaf}
 use Rattle.page_walks.specs.declared.tree_walk.Limits.{Limits}
 use Rattle.page_walks.specs.Order.{AreBetween, AreKeysInside}
-use Rattle.page_walks.specs.Spots.{entries_at, spots_in}
+use Rattle.page_walks.specs.Spots.{IsLeafThere, entries_at, spots_in}
 
 -- The tree stands in the pages that were reached now, each of which was not reached before, and
 -- these are the places of its entries.
@@ -84,13 +85,21 @@ pub record Walked (shape : NodeShape) (pages : PageMap) (h page floor : ℕ) (lo
   pub marks : Marks before.marks after.marks (pages_of h tree)
   pub adds : after.entries ≡ before.entries ++ entries_of h tree
 
--- so, within the limits of its place, where the walk had come so far and has come so far now
-abbrev pub WalksBelow : NodeShape → List (List ℕ) → (levels page : ℕ) → Limits
-    → (before after : List Bool × List Leaf) → Type 0
-WalksBelow shape list levels page limits before after =
-    Walked shape (pages_in list) levels page limits.least (option_copied limits.low)
+-- so, within the limits of its place, where the walk had come so far, has come so far now, and goes on
+abbrev pub WalksBelow : NodeShape → (levels page : ℕ) → Limits → (before after : List Bool × List Leaf)
+    → Result Unit WalkFault → List (List ℕ) → Type 0
+WalksBelow shape levels page limits before after result list =
+    OnOk result (Walked shape (pages_in list) levels page limits.least (option_copied limits.low)
     (option_copied limits.high) (reach_of shape list before.0 (spots_in before.1))
-    (reach_of shape list after.0 (spots_in after.1))
+    (reach_of shape list after.0 (spots_in after.1)))
+
+-- this is so of each list of pages that has these bytes on page n
+abbrev pub WherePageIs : (n : ℕ) → (bytes : List ℕ) → (List (List ℕ) → Type 0) → Type 0
+WherePageIs n bytes fact = (list : List (List ℕ)) → pages_in list n ≡ Some bytes → fact list
+
+-- where the leaves were there, they are now
+abbrev pub StayThere : NodeShape → List (List ℕ) → (old new : List Leaf) → Type 0
+StayThere shape list old new = Each (IsLeafThere shape list) old → Each (IsLeafThere shape list) new
 
 -- the entries of the leaf on this page come behind those of the leaves so far
 abbrev pub AddsLeaf : NodeShape → List (List ℕ) → (page : ℕ) → (old new : List Leaf) → Type 0

@@ -14,7 +14,7 @@ ghost use Rattle.pages.specs.Told.{TellsOfFault};
 ghost use Rattle.pages.specs.Source.{KeepsItsPages, OfItsPages};
 
 use byteorder::{BigEndian, ByteOrder};
-use pages::{PageFault, PageSource, WalkFault, mark};
+use pages::{Damage, PageSource, WalkFault, mark};
 
 /// The first four bytes, as a number.
 const FREE: u32 = 0x4600_0000;
@@ -34,20 +34,20 @@ fn behind<P: PageSource>(pages: &mut P, from: u32, n: u32) -> Result<u32, WalkFa
     ensures before { KeepsItsPages P.has pages.old pages.new }
 {
     if n == 0 {
-        return Err(WalkFault::of_page(PageFault::Chain, from));
+        return Err(WalkFault::of_page(Damage::Heap, from));
     }
     let Some(page) = pages.page(n) else {
-        return Err(WalkFault::of_page(PageFault::Chain, from));
+        return Err(WalkFault::of_page(Damage::Heap, from));
     };
     if BigEndian::read_u32(&page[..NEXT]) != FREE {
-        return Err(WalkFault::of_page(PageFault::Chain, n));
+        return Err(WalkFault::of_page(Damage::Heap, n));
     }
     Ok(BigEndian::read_u32(&page[NEXT..NEXT_END]))
 }
 
 /// Walks the chain of free pages of a file, of which there are so many, and marks them as reached.
 ///
-/// Shared where one of them was reached before; Chain where the pages are no such chain: at a page
+/// Shared where one of them was reached before; Heap where the pages are no such chain: at a page
 /// that is not free, or at the page that leads nowhere or too far, which is page 0 for the first.
 /// At a fault some of its pages may be marked.
 pub fn walk_free<P: PageSource>(
@@ -73,7 +73,7 @@ pub fn walk_free<P: PageSource>(
         at = next;
     }
     if at != 0 {
-        return Err(WalkFault::of_page(PageFault::Chain, from));
+        return Err(WalkFault::of_page(Damage::Heap, from));
     }
     Ok(())
 }

@@ -7,10 +7,9 @@ ghost use Rattle.pages.specs.PageList.{pages_in};
 ghost use Rattle.pages.specs.Source.{KeepsItsPages, OfItsPages};
 ghost use Rattle.pages.specs.Refused.{RefusesRightly};
 ghost use Rattle.pages.specs.Told.{TellsOfFault};
-ghost use Rattle.record_heap.specs.Chain.{IsOneOf};
-ghost use Rattle.record_heap.specs.Faults.{AreOwnPages, IsChainFault, IsHeapFault, IsSlotFault, IsWrongSlot};
+ghost use Rattle.record_heap.specs.Faults.{AreOwnPages, IsChainFault, IsHeapFault, IsSlotFault};
 ghost use Rattle.record_heap.specs.Faults.{TellsOfChain, TellsOfPage, slot_place};
-ghost use Rattle.page_walks.specs.SlotFaults.{IsLinkFault, IsWrongOfPage, TellsOfSlot};
+ghost use Rattle.page_walks.specs.SlotFaults.{IsLinkFault, IsWrongOfPage, TellsOfOwn, TellsOfSlot};
 ghost use Rattle.record_heap.specs.Walk.{WalksChain, WalksHeap, SlotsKept, ChainAhead, HeapAhead};
 ghost use Rattle.record_heap.specs.Walk.{IsFreeOrUsed, IsHeapPageAt, OwnStands};
 ghost use Rattle.page_walks.specs.SlotWalk.{EmptiesChain, AreMarked, PageMarked, SlotMarked, TakesMark};
@@ -19,7 +18,7 @@ ghost use Rattle.page_walks.specs.SlotMarks.{HasMark, SameSlots, marked_slot};
 
 use crate::slot_marks::SlotMarks;
 use byteorder::{BigEndian, ByteOrder};
-use pages::{FaultPlace, PAGE_SIZE, PageFault, PageSource, WalkFault, mark};
+use pages::{Damage, FaultPlace, PAGE_SIZE, PageSource, WalkFault, mark};
 use record_heap::slot::{behind, is_used};
 use record_heap::slots::{FIRST_SLOT, NEXT, NEXT_END, slot, start_of};
 use record_heap::{Heap, Place, SlotShape};
@@ -45,11 +44,11 @@ fn page_behind<P: PageSource>(pages: &mut P, from: u32, n: u32) -> Result<u32, W
     ensures before { KeepsItsPages P.has pages.old pages.new }
 {
     let Some(page) = pages.page(n) else {
-        return Err(WalkFault::of_page(PageFault::Chain, from));
+        return Err(WalkFault::of_page(Damage::Heap, from));
     };
     let next = BigEndian::read_u32(&page[NEXT..NEXT_END]);
     if &page[..FIRST_SLOT] != &start_of(next)[..] {
-        return Err(WalkFault::of_page(PageFault::Chain, n));
+        return Err(WalkFault::of_page(Damage::Heap, n));
     }
     Ok(next)
 }
@@ -87,7 +86,7 @@ fn walk_pages<P: PageSource>(
         }
     }
     if at != 0 {
-        return Err(WalkFault::of_page(PageFault::Chain, from));
+        return Err(WalkFault::of_page(Damage::Heap, from));
     }
     Ok(own)
 }
@@ -102,19 +101,19 @@ fn mark_slot(
     requires size { size shape ≤ length bytes.now }
     ensures marked { OnOk result (SlotMarked shape bytes.now place marks.old marks.new) }
     ensures refused { IfErr result (RefusesRightly (HasMark marks.old place × IsFreeOrUsed shape bytes.now)) }
-    ensures told { IfErr result (λ fault. fault ≡ WalkFault.At PageFault.Chain (slot_place place)) }
+    ensures told { IfErr result (λ fault. fault ≡ WalkFault.At Damage.Heap (slot_place place)) }
     ensures same { SameSlots marks.old marks.new }
 {
     match behind(bytes) {
         Some(_) => {
             if !marks.set(place, true) {
-                return Err(WalkFault::At(PageFault::Chain, place_of(place)));
+                return Err(WalkFault::At(Damage::Heap, place_of(place)));
             }
             Ok(())
         }
         None => {
             if !is_used(bytes, shape) {
-                return Err(WalkFault::At(PageFault::Chain, place_of(place)));
+                return Err(WalkFault::At(Damage::Heap, place_of(place)));
             }
             Ok(())
         }
@@ -156,15 +155,14 @@ fn mark_free<P: PageSource>(
         (λ list. OnOk result (AreMarked shape (pages_in list) own.now marks.new)) }
     ensures refused { OfItsPages P.has pages.new
         (λ list. IfErr result (RefusesRightly (OwnAhead shape list own.now marks.old))) }
-    ensures told { OfItsPages P.has pages.new (λ list. IfErr result (λ fault. AreOwnPages list own.now
-        → ((p : Place) → IsOneOf own.now p.page → p.slot < room shape → HasMark marks.old p)
-        → TellsOfChain (IsWrongSlot shape list own.now) fault)) }
+    ensures told { OfItsPages P.has pages.new
+        (λ list. IfErr result (TellsOfOwn shape list own.now marks.old)) }
     ensures same { SameSlots marks.old marks.new }
     ensures before { KeepsItsPages P.has pages.old pages.new }
 {
     for &n in own {
         let Some(page) = pages.page(n) else {
-            return Err(WalkFault::of_page(PageFault::Chain, n));
+            return Err(WalkFault::of_page(Damage::Heap, n));
         };
         mark_page(&page, shape, n, marks)?;
     }
@@ -189,16 +187,16 @@ fn take_mark<P: PageSource>(
     ensures before { KeepsItsPages P.has pages.old pages.new }
 {
     if at.slot as usize >= shape.room() {
-        return Err(WalkFault::At(PageFault::Chain, from));
+        return Err(WalkFault::At(Damage::Heap, from));
     }
     let Some(page) = pages.page(at.page) else {
-        return Err(WalkFault::At(PageFault::Chain, from));
+        return Err(WalkFault::At(Damage::Heap, from));
     };
     if !marks.has(at) || !marks.set(at, false) {
-        return Err(WalkFault::At(PageFault::Chain, from));
+        return Err(WalkFault::At(Damage::Heap, from));
     }
     match behind(slot(&page, shape, at.slot as usize)) {
-        None => Err(WalkFault::At(PageFault::Chain, place_of(at))),
+        None => Err(WalkFault::At(Damage::Heap, place_of(at))),
         Some(next) => Ok(next),
     }
 }
@@ -230,7 +228,7 @@ fn walk_slots<P: PageSource>(
         at = next;
     }
     if at.page != 0 {
-        return Err(WalkFault::At(PageFault::Chain, from));
+        return Err(WalkFault::At(Damage::Heap, from));
     }
     Ok(())
 }
@@ -261,7 +259,7 @@ fn walk_own<P: PageSource>(
         return Ok(());
     }
     match marks.first() {
-        Some(slot) => Err(WalkFault::At(PageFault::Chain, place_of(slot))),
+        Some(slot) => Err(WalkFault::At(Damage::Heap, place_of(slot))),
         None => Ok(()),
     }
 }
@@ -270,7 +268,7 @@ fn walk_own<P: PageSource>(
 /// its own pages in the order of their chain, and marks them as reached; each slot of them is in use,
 /// or stands once in the chain of free slots.
 ///
-/// Memory; Shared where a heap page was reached before; Chain where the pages are no such heap: at
+/// Memory; Shared where a heap page was reached before; Heap where the pages are no such heap: at
 /// a page or slot that is none, at a free slot that nothing leads to, or at the page or slot that
 /// leads on wrongly, which is page 0 for the first. At a fault some of its pages may be marked.
 pub fn walk_heap<P: PageSource>(

@@ -1,22 +1,26 @@
 //! The levels of a tree, from its root down.
 
-ghost use Rattle.std.specs.Prelude.{◌≡◌, ◌<◌, ◌^◌, ◌++◌, [], ◌∷◌, IfOk, OnOk, length};
+ghost use Rattle.std.specs.Prelude.{◌≡◌, ◌<◌, ◌^◌, ◌++◌, [], ◌∷◌, IfErr, IfOk, OnOk, length, List, ℕ};
 ghost use Rattle.pages.specs.Each.{Each};
+ghost use Rattle.pages.specs.Refused.{RefusesRightly};
+ghost use Rattle.pages.specs.Source.{KeepsItsPages, OfItsPages};
 ghost use Rattle.tree_node.specs.Inner.{IsInner, children};
 ghost use Rattle.page_walks.specs.Levels.{HasTreeBelow, CountsTree, LevelsHaveAllPages};
-ghost use Rattle.page_walks.specs.Rows.{IsInnerIn, AreNodes, children_in, entries_in_row, AreFewLeaves};
-ghost use Rattle.page_walks.specs.Rows.{leaves_in, levels_in, leaf_level, inner_level};
+ghost use Rattle.page_walks.specs.Rows.{AddsRows, IsInnerIn, IsLeafIn, children_in};
+ghost use Rattle.page_walks.specs.Rows.{AreFew, CountsEntries, leaf_level, inner_level};
 
 use crate::level::{Level, TreeCounts};
-use pages::PAGE_SIZE;
-use std::alloc::{AllocError, Global};
+use crate::node_page::{inner_page, leaf_page};
+use pages::{PAGE_SIZE, PageSource, WalkFault};
+use std::alloc::Global;
 use tree_node::{InnerView, LeafView, NodeShape};
 
 /// Adds a page.
-fn push_page(row: &mut Vec<u32>, n: u32) -> Result<(), AllocError>
-    ensures { OnOk result (row.new.items ≡ row.old.items ++ n ∷ []) }
+fn push_page(row: &mut Vec<u32>, n: u32) -> Result<(), WalkFault>
+    ensures added { OnOk result (row.new.items ≡ row.old.items ++ n ∷ []) }
+    ensures memory { IfErr result (λ fault. fault ≡ WalkFault.Memory) }
 {
-    row.push(n).map_err(|_| AllocError)
+    row.push(n).map_err(|_| WalkFault::Memory)
 }
 
 /// Adds the children of an inner node.
@@ -24,9 +28,10 @@ fn add_children(
     page: &[u8; PAGE_SIZE],
     shape: NodeShape,
     below: &mut Vec<u32>,
-) -> Result<(), AllocError>
+) -> Result<(), WalkFault>
     requires { IsInner shape page.now }
-    ensures { OnOk result (below.new.items ≡ below.old.items ++ children shape page.now) }
+    ensures added { OnOk result (below.new.items ≡ below.old.items ++ children shape page.now) }
+    ensures memory { IfErr result (λ fault. fault ≡ WalkFault.Memory) }
 {
     let node = InnerView { page, shape };
     for i in 0..node.count() + 1 {
@@ -35,107 +40,121 @@ fn add_children(
     Ok(())
 }
 
-/// The children of these inner nodes, in their order.
-fn children_of(
+/// The children of inner nodes, in their order. Node: one of them is none.
+fn children_of<P: PageSource>(
     alloc: Global,
-    pages: &[[u8; PAGE_SIZE]],
+    pages: &mut P,
     shape: NodeShape,
     row: &[u32],
-) -> Result<Vec<u32>, AllocError>
-    requires { Each (IsInnerIn shape pages.now) row.now }
-    ensures { IfOk result (λ below. below.items ≡ children_in shape pages.now row.now) }
+) -> Result<Vec<u32>, WalkFault>
+    ensures children { OfItsPages P.has pages.new
+        (λ list. IfOk result (λ below. below.items ≡ children_in shape list row.now)) }
+    ensures refused { OfItsPages P.has pages.new
+        (λ list. IfErr result (RefusesRightly (Each (IsInnerIn shape list) row.now))) }
+    ensures before { KeepsItsPages P.has pages.old pages.new }
 {
     let mut below = Vec::new(alloc);
     for &n in row {
-        add_children(&pages[n as usize], shape, &mut below)?;
+        let page = inner_page(pages, shape, n)?;
+        add_children(&page, shape, &mut below)?;
     }
     Ok(below)
 }
 
-/// How many entries these leaves have.
-fn count_entries(pages: &[[u8; PAGE_SIZE]], shape: NodeShape, leaves: &[u32]) -> u64
-    requires { AreFewLeaves shape pages.now leaves.now }
-    ensures { result ≡ length (entries_in_row shape pages.now leaves.now) }
+/// How many entries leaves have, as far as 64 bits can count. Node: one of them is none.
+fn count_entries<P: PageSource>(
+    pages: &mut P,
+    shape: NodeShape,
+    leaves: &[u32],
+) -> Result<u64, WalkFault>
+    ensures counted { OfItsPages P.has pages.new (CountsEntries shape leaves.now result) }
+    ensures refused { OfItsPages P.has pages.new
+        (λ list. IfErr result (RefusesRightly (Each (IsLeafIn shape list) leaves.now))) }
+    ensures before { KeepsItsPages P.has pages.old pages.new }
 {
-    let mut entries = 0;
+    let mut entries: u64 = 0;
     for &n in leaves {
-        let page = &pages[n as usize];
-        entries += LeafView { page, shape }.count() as u64;
+        let page = leaf_page(pages, shape, n)?;
+        let leaf = LeafView { page: &page, shape };
+        entries = entries.saturating_add(leaf.count() as u64);
     }
-    entries
+    Ok(entries)
 }
 
 /// What a row of inner nodes has, whose children these are: a node has one child more than separators.
-fn inner_counts(pages: &[[u8; PAGE_SIZE]], shape: NodeShape, row: &[u32], below: &[u32]) -> Level
-    requires { below.now ≡ children_in shape pages.now row.now }
-    ensures { result ≡ inner_level shape pages.now row.now }
+fn inner_counts(shape: NodeShape, row: &[u32], below: &[u32]) -> Level
+    ensures { (list : List (List ℕ)) → below.now ≡ children_in shape list row.now
+        → result ≡ inner_level shape list row.now }
 {
     Level {
         pages: row.len() as u64,
-        entries: (below.len() - row.len()) as u64,
+        entries: below.len().saturating_sub(row.len()) as u64,
         room: shape.inner_room() as u64,
     }
 }
 
-/// What a row of leaves has.
-fn leaf_counts(pages: &[[u8; PAGE_SIZE]], shape: NodeShape, row: &[u32]) -> Level
-    requires { AreFewLeaves shape pages.now row.now }
-    ensures { result ≡ leaf_level shape pages.now row.now }
+/// What a row of leaves has. Node: one of them is none.
+fn leaf_counts<P: PageSource>(
+    pages: &mut P,
+    shape: NodeShape,
+    row: &[u32],
+) -> Result<Level, WalkFault>
+    ensures counted { OfItsPages P.has pages.new (λ list. AreFew shape list row.now
+        → IfOk result (λ level. level ≡ leaf_level shape list row.now)) }
+    ensures refused { OfItsPages P.has pages.new
+        (λ list. IfErr result (RefusesRightly (Each (IsLeafIn shape list) row.now))) }
+    ensures before { KeepsItsPages P.has pages.old pages.new }
 {
-    Level {
+    Ok(Level {
         pages: row.len() as u64,
-        entries: count_entries(pages, shape, row),
+        entries: count_entries(pages, shape, row)?,
         room: shape.leaf_room() as u64,
-    }
+    })
 }
 
 /// Adds a level.
-fn push_level(levels: &mut Vec<Level>, level: Level) -> Result<(), AllocError>
-    ensures { OnOk result (levels.new.items ≡ levels.old.items ++ level ∷ []) }
+fn push_level(levels: &mut Vec<Level>, level: Level) -> Result<(), WalkFault>
+    ensures added { OnOk result (levels.new.items ≡ levels.old.items ++ level ∷ []) }
+    ensures memory { IfErr result (λ fault. fault ≡ WalkFault.Memory) }
 {
-    levels.push(level).map_err(|_| AllocError)
+    levels.push(level).map_err(|_| WalkFault::Memory)
 }
 
 /// Adds what each row has from this one down, which has so many levels below it, and answers the leaves.
-fn add_rows(
+fn add_rows<P: PageSource>(
     alloc: Global,
-    pages: &[[u8; PAGE_SIZE]],
+    pages: &mut P,
     shape: NodeShape,
     height: u8,
     row: Vec<u32>,
     levels: &mut Vec<Level>,
-) -> Result<Vec<u32>, AllocError>
-    requires nodes { AreNodes shape pages.now height row.items }
-    requires few { length (entries_in_row shape pages.now (leaves_in shape pages.now height row.items))
-        < 2 ^ 64 }
-    ensures levels { OnOk result (levels.new.items ≡ levels.old.items
-        ++ levels_in shape pages.now height row.items) }
-    ensures leaves { IfOk result (λ leaves. leaves.items ≡ leaves_in shape pages.now height row.items) }
+) -> Result<Vec<u32>, WalkFault>
+    ensures added { OfItsPages P.has pages.new
+        (λ list. AddsRows shape list height row.items levels.old.items levels.new.items result) }
+    ensures before { KeepsItsPages P.has pages.old pages.new }
 {
     if height == 0 {
-        push_level(levels, leaf_counts(pages, shape, &row))?;
+        let level = leaf_counts(pages, shape, &row)?;
+        push_level(levels, level)?;
         return Ok(row);
     }
     let below = children_of(alloc, pages, shape, &row)?;
-    push_level(levels, inner_counts(pages, shape, &row, &below))?;
+    push_level(levels, inner_counts(shape, &row, &below))?;
     add_rows(alloc, pages, shape, height - 1, below, levels)
 }
 
 /// Adds what each row has from that of the root down.
-fn add_tree(
+fn add_tree<P: PageSource>(
     alloc: Global,
-    pages: &[[u8; PAGE_SIZE]],
+    pages: &mut P,
     shape: NodeShape,
     height: u8,
     root: u32,
     levels: &mut Vec<Level>,
-) -> Result<Vec<u32>, AllocError>
-    requires nodes { AreNodes shape pages.now height (root ∷ []) }
-    requires few { length (entries_in_row shape pages.now (leaves_in shape pages.now height (root ∷ [])))
-        < 2 ^ 64 }
-    ensures levels { OnOk result (levels.new.items ≡ levels.old.items
-        ++ levels_in shape pages.now height (root ∷ [])) }
-    ensures leaves { IfOk result (λ leaves. leaves.items ≡ leaves_in shape pages.now height (root ∷ [])) }
+) -> Result<Vec<u32>, WalkFault>
+    ensures added { OfItsPages P.has pages.new
+        (λ list. AddsRows shape list height (root ∷ []) levels.old.items levels.new.items result) }
+    ensures before { KeepsItsPages P.has pages.old pages.new }
 {
     let mut row = Vec::new(alloc);
     push_page(&mut row, root)?;
@@ -143,19 +162,21 @@ fn add_tree(
 }
 
 /// Counts the levels of a tree that stands below the page `root`, with so many levels above its
-/// leaves, over the pages of a file as they were read.
+/// leaves, over the pages of a file.
 ///
-/// Each page of the tree is looked at once. `AllocError` where memory is wanting: four bytes for
-/// each page of two levels.
-pub fn count_tree(
+/// Each page of the tree is asked for once. Memory: four bytes are wanted for each page of two levels.
+/// Node: no such tree stands there.
+pub fn count_tree<P: PageSource>(
     alloc: Global,
-    pages: &[[u8; PAGE_SIZE]],
+    pages: &mut P,
     shape: NodeShape,
     height: u8,
     root: u32,
-) -> Result<TreeCounts, AllocError>
-    requires { HasTreeBelow shape pages.now height root }
-    ensures { CountsTree shape pages.now height root result }
+) -> Result<TreeCounts, WalkFault>
+    ensures counted { OfItsPages P.has pages.new (λ list. CountsTree shape list height root result) }
+    ensures refused { OfItsPages P.has pages.new
+        (λ list. IfErr result (RefusesRightly (HasTreeBelow shape list height root))) }
+    ensures before { KeepsItsPages P.has pages.old pages.new }
 {
     let mut levels = Vec::new(alloc);
     let leaves = add_tree(alloc, pages, shape, height, root, &mut levels)?;

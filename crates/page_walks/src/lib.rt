@@ -19,6 +19,7 @@ mod law;
 mod leaf;
 mod level;
 mod levels;
+mod node_page;
 mod order;
 mod runs;
 mod slot_marks;

@@ -1,73 +1,107 @@
 //! How many entries of a tree have one value at most, where equal values stand together.
 
-ghost use Rattle.std.specs.Prelude.{◌≡◌, ◌+◌, ◌<◌, ◌≤◌, ◌^◌, ◌↔◌, [], ◌∷◌, Some, IsTrue, length};
-ghost use Rattle.std.specs.Option.{option_copied};
+ghost use Rattle.std.specs.Prelude.{◌≡◌, ◌≤◌, ◌↔◌, [], ◌∷◌, IfErr, IfOk, Some, IsTrue, option_map};
 ghost use Rattle.pages.specs.Each.{Each};
-ghost use Rattle.tree_node.specs.Leaf.{leaf_entries};
-ghost use Rattle.page_walks.specs.Rows.{IsLeafIn, entries_in_row};
-ghost use Rattle.page_walks.specs.Runs.{values_of, AreTogether, IsGreatestCount, TakesValues, CanGoOn};
-ghost use Rattle.page_walks.specs.Runs.{CanGoThrough, TreesKeepTogether};
+ghost use Rattle.pages.specs.Refused.{RefusesRightly};
+ghost use Rattle.pages.specs.Source.{KeepsItsPages, OfItsPages};
+ghost use Rattle.tree_node.specs.Leaf.{IsLeaf, leaf_entries};
+ghost use Rattle.page_walks.specs.Rows.{IsLeafIn};
+ghost use Rattle.page_walks.specs.Runs.{values_of, IsLongestRun, TakesValues, TreesKeepTogether};
 
-use pages::PAGE_SIZE;
+use crate::node_page::leaf_page;
+use pages::{PAGE_SIZE, PageSource, WalkFault};
+use std::alloc::Global;
 use tree_node::{LeafView, NodeShape};
 
 /// The values so far: the last one, how many of them are equal to it, and how many are equal to one
 /// another at most.
-#[derive(Clone, Copy)]
-struct Run<'a> {
-    last: Option<&'a [u8]>,
+#[derive(Drop)]
+struct Run {
+    last: Option<Vec<u8>>,
     length: u64,
     longest: u64,
 }
 
 /// The value is the last one.
-fn is_last(last: Option<&[u8]>, value: &[u8]) -> bool
-    ensures { IsTrue result ↔ (option_copied last.entry ≡ Some value.now) }
+fn is_last(last: &Option<Vec<u8>>, value: &[u8]) -> bool
+    ensures { IsTrue result ↔ (option_map (λ bytes. bytes.items) last.now ≡ Some value.now) }
 {
     match last {
-        Some(last) => last == value,
+        Some(last) => last.as_slice() == value,
         None => false,
     }
 }
 
-/// The values so far with one more.
-fn with_value<'a>(run: Run<'a>, value: &'a [u8]) -> Run<'a>
-    requires { CanGoOn run (value.now ∷ []) }
-    ensures { TakesValues (value.now ∷ []) run.entry result }
+/// The value, in the memory of the last one.
+fn kept(alloc: Global, last: Option<Vec<u8>>, value: &[u8]) -> Result<Vec<u8>, WalkFault>
+    ensures kept { IfOk result (λ bytes. bytes.items ≡ value.now) }
+    ensures memory { IfErr result (λ fault. fault ≡ WalkFault.Memory) }
 {
-    let length = if is_last(run.last, value) {
-        run.length + 1
-    } else {
-        1
+    let mut bytes = match last {
+        Some(bytes) => bytes,
+        None => Vec::new(alloc),
     };
-    Run {
-        last: Some(value),
-        length,
-        longest: run.longest.max(length),
+    bytes.clear();
+    match bytes.extend_from_slice(value) {
+        Ok(()) => Ok(bytes),
+        Err(_) => Err(WalkFault::Memory),
     }
 }
 
+/// The values so far with one more.
+fn with_value(alloc: Global, run: Run, value: &[u8]) -> Result<Run, WalkFault>
+    ensures taken { IfOk result (TakesValues (value.now ∷ []) run) }
+    ensures memory { IfErr result (λ fault. fault ≡ WalkFault.Memory) }
+{
+    let length = if is_last(&run.last, value) {
+        run.length.saturating_add(1)
+    } else {
+        1
+    };
+    let longest = run.longest.max(length);
+    Ok(Run {
+        last: Some(kept(alloc, run.last, value)?),
+        length,
+        longest,
+    })
+}
+
 /// The values so far with those of a leaf's entries, so many bytes of each.
-fn with_leaf<'a>(run: Run<'a>, page: &'a [u8; PAGE_SIZE], shape: NodeShape, width: u16) -> Run<'a>
-    requires { CanGoThrough run width shape page.now }
-    ensures { TakesValues (values_of width (leaf_entries shape page.now)) run.entry result }
+fn with_leaf(
+    alloc: Global,
+    run: Run,
+    page: &[u8; PAGE_SIZE],
+    shape: NodeShape,
+    width: u16,
+) -> Result<Run, WalkFault>
+    requires leaf { IsLeaf shape page.now }
+    requires narrow { width ≤ shape.entry }
+    ensures taken { IfOk result (TakesValues (values_of width (leaf_entries shape page.now)) run) }
+    ensures memory { IfErr result (λ fault. fault ≡ WalkFault.Memory) }
 {
     let leaf = LeafView { page, shape };
     let mut run = run;
     for i in 0..leaf.count() {
-        run = with_value(run, &leaf.entry(i)[..width as usize]);
+        run = with_value(alloc, run, &leaf.entry(i)[..width as usize])?;
     }
-    run
+    Ok(run)
 }
 
-/// How many entries of these leaves have one value at most. A value has so many bytes, with which
-/// an entry begins.
-pub fn longest_run(pages: &[[u8; PAGE_SIZE]], shape: NodeShape, width: u16, leaves: &[u32]) -> u64
-    requires leaves { Each (IsLeafIn shape pages.now) leaves.now }
+/// How many entries of leaves have one value at most. A value has so many bytes, with which an entry
+/// begins. Each leaf is asked for once. Memory; Node: one of them is no leaf.
+pub fn longest_run<P: PageSource>(
+    alloc: Global,
+    pages: &mut P,
+    shape: NodeShape,
+    width: u16,
+    leaves: &[u32],
+) -> Result<u64, WalkFault>
     requires narrow { width ≤ shape.entry }
-    requires few { length (entries_in_row shape pages.now leaves.now) < 2 ^ 64 }
-    requires together { AreTogether (values_of width (entries_in_row shape pages.now leaves.now)) }
-    ensures { IsGreatestCount (values_of width (entries_in_row shape pages.now leaves.now)) result }
+    ensures counted { OfItsPages P.has pages.new
+        (λ list. IfOk result (IsLongestRun shape width list leaves.now)) }
+    ensures refused { OfItsPages P.has pages.new
+        (λ list. IfErr result (RefusesRightly (Each (IsLeafIn shape list) leaves.now))) }
+    ensures before { KeepsItsPages P.has pages.old pages.new }
 {
     let mut run = Run {
         last: None,
@@ -75,9 +109,10 @@ pub fn longest_run(pages: &[[u8; PAGE_SIZE]], shape: NodeShape, width: u16, leav
         longest: 0,
     };
     for &n in leaves {
-        run = with_leaf(run, &pages[n as usize], shape, width);
+        let page = leaf_page(pages, shape, n)?;
+        run = with_leaf(alloc, run, &page, shape, width)?;
     }
-    run.longest
+    Ok(run.longest)
 }
 
 /// The law of runs: a tree keeps equal values together. It does nothing.

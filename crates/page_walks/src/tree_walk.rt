@@ -1,24 +1,24 @@
 //! A tree over the pages of a file.
 
-ghost use Rattle.std.specs.Prelude.{◌≡◌, min, IfErr, IfOk, OnOk, Some, List, ℕ};
+ghost use Rattle.std.specs.Prelude.{◌≡◌, min, IfErr, IfOk, OnOk};
 ghost use Rattle.pages.specs.Each.{Each};
 ghost use Rattle.bplus_tree.specs.Fields.{tree_shape};
 ghost use Rattle.tree_node.specs.Leaf.{IsLeaf, leaf_room};
 ghost use Rattle.tree_node.specs.Fill.{least_entries};
-ghost use Rattle.pages.specs.PageList.{pages_in};
 ghost use Rattle.pages.specs.Refused.{RefusesRightly};
 ghost use Rattle.page_walks.specs.Spots.{IsLeafThere};
 ghost use Rattle.pages.specs.Told.{TellsOfFault};
 ghost use Rattle.page_walks.specs.TreeAhead.{AwaitsBelow, TreeUnmarked};
-ghost use Rattle.page_walks.specs.TreeFaults.{IsNodeFault, IsSomewhereBelow, IsTreeFault, MarksBelow};
+ghost use Rattle.page_walks.specs.TreeFaults.{IsNodeFault, IsTreeFault, MarksBelow, TellsFaultBelow};
 ghost use Rattle.page_walks.specs.TreeFaults.{node_place, root_place};
-ghost use Rattle.page_walks.specs.TreeWalk.{IsInnerWithin, IsLeafWithin, AddsLeaf, WalksBelow, WalksTree};
+ghost use Rattle.page_walks.specs.TreeWalk.{IsInnerWithin, IsLeafWithin, AddsLeaf, StayThere, WalksBelow};
+ghost use Rattle.page_walks.specs.TreeWalk.{WalksTree, WherePageIs};
 ghost use Rattle.pages.specs.Source.{KeepsItsPages, OfItsPages};
 
 use crate::leaf::{Leaf, have_entries, push};
 use crate::order::{check_keys, check_separators};
 use bplus_tree::Tree;
-use pages::{PAGE_SIZE, PageFault, PageSource, WalkFault, mark};
+use pages::{Damage, PAGE_SIZE, PageSource, WalkFault, mark};
 use std::alloc::Global;
 use tree_node::{InnerView, LeafView, NodeShape, is_inner, is_leaf};
 
@@ -45,15 +45,15 @@ fn check_leaf(
         (TellsOfFault (IsNodeFault shape page.now (node_place 0 n limits.entry))) }
 {
     if !is_leaf(page, shape) {
-        return Err(WalkFault::of_page(PageFault::Node, n));
+        return Err(WalkFault::of_page(Damage::Node, n));
     }
     let entries = LeafView { page, shape }.count();
     if entries < limits.least {
-        return Err(WalkFault::of_page(PageFault::Node, n));
+        return Err(WalkFault::of_page(Damage::Node, n));
     }
     match check_keys(page, shape, limits.low, limits.high) {
         Ok(()) => Ok(()),
-        Err(entry) => Err(WalkFault::of_entry(PageFault::Order, n, entry)),
+        Err(entry) => Err(WalkFault::of_entry(Damage::Order, n, entry)),
     }
 }
 
@@ -70,15 +70,15 @@ fn check_inner(
         (TellsOfFault (IsNodeFault shape page.now (node_place 1 n limits.entry))) }
 {
     if !is_inner(page, shape) {
-        return Err(WalkFault::of_page(PageFault::Node, n));
+        return Err(WalkFault::of_page(Damage::Node, n));
     }
     let separators = InnerView { page, shape }.count();
     if separators < limits.least {
-        return Err(WalkFault::of_page(PageFault::Node, n));
+        return Err(WalkFault::of_page(Damage::Node, n));
     }
     match check_separators(page, shape, limits.low, limits.high) {
         Ok(()) => Ok(()),
-        Err(separator) => Err(WalkFault::of_entry(PageFault::Order, n, separator)),
+        Err(separator) => Err(WalkFault::of_entry(Damage::Order, n, separator)),
     }
 }
 
@@ -108,11 +108,10 @@ fn push_leaf(
     leaves: &mut Vec<Leaf>,
 ) -> Result<(), WalkFault>
     requires leaf { IsLeaf shape bytes.now }
-    ensures adds { (list : List (List ℕ)) → pages_in list page ≡ Some bytes.now
-        → OnOk result (AddsLeaf shape list page leaves.old.items leaves.new.items) }
-    ensures there { (list : List (List ℕ)) → pages_in list page ≡ Some bytes.now
-        → OnOk result (Each (IsLeafThere shape list) leaves.old.items
-        → Each (IsLeafThere shape list) leaves.new.items) }
+    ensures adds { WherePageIs page bytes.now
+        (λ list. OnOk result (AddsLeaf shape list page leaves.old.items leaves.new.items)) }
+    ensures there { WherePageIs page bytes.now
+        (λ list. OnOk result (StayThere shape list leaves.old.items leaves.new.items)) }
     ensures memory { IfErr result (λ fault. fault ≡ WalkFault.Memory) }
 {
     let count = LeafView { page: bytes, shape }.count() as u16;
@@ -132,23 +131,21 @@ fn walk_below<P: PageSource>(
     reached: &mut [bool],
     leaves: &mut Vec<Leaf>,
 ) -> Result<(), WalkFault>
-    ensures walked { OfItsPages P.has pages.new
-        (λ list. OnOk result (WalksBelow shape list levels page limits.entry
-        (reached.old, leaves.old.items) (reached.new, leaves.new.items))) }
+    ensures walked { OfItsPages P.has pages.new (WalksBelow shape levels page limits.entry
+        (reached.old, leaves.old.items) (reached.new, leaves.new.items) result) }
     ensures there { OfItsPages P.has pages.new
-        (λ list. OnOk result (Each (IsLeafThere shape list) leaves.old.items
-        → Each (IsLeafThere shape list) leaves.new.items)) }
+        (λ list. OnOk result (StayThere shape list leaves.old.items leaves.new.items)) }
     ensures marks { OfItsPages P.has pages.new
         (λ list. OnOk result (MarksBelow shape list (node_place levels page limits.entry)
         reached.old reached.new)) }
     ensures refused { OfItsPages P.has pages.new (λ list. IfErr result
         (RefusesRightly (AwaitsBelow shape list levels page limits.entry reached.old))) }
     ensures told { OfItsPages P.has pages.new (λ list. IfErr result
-        (TellsOfFault (IsSomewhereBelow shape list (node_place levels page limits.entry) reached.old))) }
+        (TellsFaultBelow shape list (node_place levels page limits.entry) reached.old)) }
     ensures before { KeepsItsPages P.has pages.old pages.new }
 {
     let Some(bytes) = pages.page(page) else {
-        return Err(WalkFault::of_page(PageFault::Node, limits.parent));
+        return Err(WalkFault::of_page(Damage::Node, limits.parent));
     };
     mark(reached, page)?;
     if levels == 0 {
@@ -204,7 +201,7 @@ fn walk_below<P: PageSource>(
 /// Walks a tree over the pages of a file. Answers its leaves that have entries, in order, and marks
 /// its pages as reached. Each level of the tree keeps one page while it is walked.
 ///
-/// Memory; Shared where a page of the tree was reached before; Node, Order or Count where the pages
+/// Memory; Shared where a page of the tree was reached before; Node, Order or Index where the pages
 /// are no such tree. A root that is not there is told at page 0, a child at its parent, and the
 /// count at the root. At a fault some of its pages may be marked.
 pub fn walk_tree<P: PageSource>(
@@ -242,7 +239,7 @@ pub fn walk_tree<P: PageSource>(
         &mut leaves,
     )?;
     if !have_entries(&leaves, tree.count()) {
-        return Err(WalkFault::of_page(PageFault::Count, tree.root()));
+        return Err(WalkFault::of_page(Damage::Index, tree.root()));
     }
     Ok(leaves)
 }

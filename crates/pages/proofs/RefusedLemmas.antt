@@ -4,7 +4,7 @@ use Rattle.std.proofs.lemmas.Result.{err_from_is_err_and}
 use Rattle.pages.specs.Each.{Each}
 use Rattle.pages.specs.Owners.{IsOutside}
 use Rattle.pages.specs.declared.fault_place.FaultPlace.{FaultPlace}
-use Rattle.pages.specs.declared.page_fault.PageFault.{PageFault}
+use Rattle.pages.specs.declared.damage.Damage.{Damage}
 use Rattle.pages.specs.declared.walk_fault.WalkFault.{WalkFault}
 use Rattle.pages.specs.declared.walk_fault.WalkFault.TheVariants.{Memory, At}
 use Rattle.pages.specs.Marks.{IsUnmarked, Marks, marked_in}
@@ -12,7 +12,7 @@ use Rattle.pages.specs.Refused.{RefusesRightly}
 use Rattle.pages.proofs.EachLemmas.{each_both}
 
 -- a fault of a page where this is not so
-pub refused : (S : Type 0) (fault : WalkFault) (what : PageFault) (place : FaultPlace) → fault ≡ At what place → (S → ⊥) → RefusesRightly S fault
+pub refused : (S : Type 0) (fault : WalkFault) (what : Damage) (place : FaultPlace) → fault ≡ At what place → (S → ⊥) → RefusesRightly S fault
 refused S fault what place is never = subst (RefusesRightly S) (sym is) never
 
 pub for_memory : (S : Type 0) (fault : WalkFault) → fault ≡ Memory → RefusesRightly S fault

@@ -13,19 +13,19 @@
 
 pub mod chunks;
 mod copies;
+mod damage;
 mod fault_place;
 mod law;
 mod marks;
-mod page_fault;
 mod pages;
 mod source;
 mod walk_fault;
 
 pub use copies::{copy, store};
+pub use damage::Damage;
 pub use fault_place::FaultPlace;
 pub use law::marks_part_the_pages;
 pub use marks::{all_marked, mark};
-pub use page_fault::PageFault;
 pub use pages::Pages;
 pub use source::{PageList, PageSource};
 pub use walk_fault::WalkFault;

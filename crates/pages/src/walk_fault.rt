@@ -1,7 +1,7 @@
 //! Why a walk ends.
 
+use crate::damage::Damage;
 use crate::fault_place::FaultPlace;
-use crate::page_fault::PageFault;
 use thiserror::Error;
 
 /// Why a walk over the pages of a file gave up.
@@ -11,21 +11,21 @@ pub enum WalkFault {
     Memory,
     /// What is wrong, and where.
     #[error("{1}: {0}")]
-    At(PageFault, FaultPlace),
+    At(Damage, FaultPlace),
 }
 
 impl WalkFault {
     ghost use Rattle.std.specs.Prelude.{◌≡◌};
 
     /// A fault of a page.
-    pub fn of_page(fault: PageFault, page: u32) -> WalkFault
+    pub fn of_page(fault: Damage, page: u32) -> WalkFault
         ensures { result ≡ WalkFault.At fault (FaultPlace.Page page) }
     {
         WalkFault::At(fault, FaultPlace::Page(page))
     }
 
     /// A fault of an entry of a page.
-    pub fn of_entry(fault: PageFault, page: u32, entry: u32) -> WalkFault
+    pub fn of_entry(fault: Damage, page: u32, entry: u32) -> WalkFault
         ensures { result ≡ WalkFault.At fault (FaultPlace.Entry page entry) }
     {
         WalkFault::At(fault, FaultPlace::Entry { page, entry })

@@ -3,8 +3,9 @@ use Rattle.std.specs.Prelude.{◌≡◌, ◌≢◌, ◌⊎◌, ℕ, ◌<◌, ◌
 use Rattle.pages.specs.Each.{Each}
 use Rattle.pages.specs.declared.fault_place.FaultPlace.{FaultPlace}
 use Rattle.pages.specs.declared.fault_place.FaultPlace.TheVariants.{Page, Entry}
-use Rattle.pages.specs.declared.page_fault.PageFault.{PageFault}
-use Rattle.pages.specs.declared.page_fault.PageFault.TheVariants.{Shared, Node, Order, Chain, Count}
+use Rattle.pages.specs.declared.damage.Damage.{Damage}
+use Rattle.pages.specs.declared.damage.Damage.TheVariants.{Shared, Node, Order, Heap as BrokenHeap}
+use Rattle.pages.specs.declared.damage.Damage.TheVariants.{Index, Lost}
 use Rattle.pages.specs.declared.walk_fault.WalkFault.{WalkFault}
 use Rattle.pages.specs.declared.walk_fault.WalkFault.TheVariants.{Memory, At}
 use Rattle.pages.specs.Marks.{IsUnmarked}
@@ -37,29 +38,30 @@ last_slot_place (p ∷ q ∷ ps) = last_slot_place (q ∷ ps)
 
 -- the page that leads to page n is told where n is none of the list; or n is, where it is no heap page
 abbrev pub TellsOfPage : List (List ℕ) → (from n : ℕ) → WalkFault → Type 0
-TellsOfPage list from n fault = ((fault ≡ At Chain (Page from)) × (length list ≤ n))
-    ⊎ ((fault ≡ At Chain (Page n)) × (n < length list) × (IsHeapPageAt (pages_in list) n → ⊥))
+TellsOfPage list from n fault = ((fault ≡ At BrokenHeap (Page from)) × (length list ≤ n))
+    ⊎ ((fault ≡ At BrokenHeap (Page n)) × (n < length list) × (IsHeapPageAt (pages_in list) n → ⊥))
 
 -- This is wrong behind heap pages that lead from the first one to page n: n had its mark before, or is
 -- one of them; it is none of the list, or no heap page; or they are as many as there are marks.
-abbrev pub IsFaultBehindPages : List (List ℕ) → List Bool → List ℕ → ℕ → PageFault → FaultPlace → Type 0
+abbrev pub IsFaultBehindPages : List (List ℕ) → List Bool → List ℕ → ℕ → Damage → FaultPlace → Type 0
 IsFaultBehindPages list marks own n Shared place =
     (place ≡ Page n) × (n < length list) × (IsUnmarked marks n → IsOneOf own n)
-IsFaultBehindPages list marks own n Chain place = TellsOfPage list (last_heap_page own) n (At Chain place)
+IsFaultBehindPages list marks own n BrokenHeap place = TellsOfPage list (last_heap_page own) n (At BrokenHeap place)
     ⊎ ((length own ≡ length marks) × (place ≡ Page (last_heap_page own)))
 IsFaultBehindPages list marks own n Node place = ⊥
 IsFaultBehindPages list marks own n Order place = ⊥
-IsFaultBehindPages list marks own n Count place = ⊥
+IsFaultBehindPages list marks own n Index place = ⊥
+IsFaultBehindPages list marks own n Lost place = ⊥
 
 -- so it is with the chain of heap pages, some pages of the list having their marks before
-abbrev pub IsChainFault : List (List ℕ) → (first : ℕ) → List Bool → PageFault → FaultPlace → Type 0
+abbrev pub IsChainFault : List (List ℕ) → (first : ℕ) → List Bool → Damage → FaultPlace → Type 0
 IsChainFault list first marks fault place = (own : List ℕ) × (n : ℕ)
     × IsPagePath (pages_in list) first own n × (n ≢ 0) × IsFaultBehindPages list marks own n fault place
 
 -- that memory ran out, or that a chain is broken, and where, of which this holds
 abbrev pub TellsOfChain : (FaultPlace → Type 0) → WalkFault → Type 0
 TellsOfChain Holds Memory = ⊤
-TellsOfChain Holds (At fault place) = (fault ≡ Chain) × Holds place
+TellsOfChain Holds (At fault place) = (fault ≡ BrokenHeap) × Holds place
 
 -- a slot of these pages is neither free nor in use
 pub record IsWrongSlot (shape : SlotShape) (list : List (List ℕ)) (own : List ℕ)
@@ -116,10 +118,11 @@ pub record HasSlotFault (heap : Heap) (list : List (List ℕ)) (place : FaultPla
   pub wrong : IsSlotFault heap list own place
 
 -- this is wrong with a heap, some pages of the list having their marks before
-abbrev pub IsHeapFault : Heap → List (List ℕ) → List Bool → PageFault → FaultPlace → Type 0
+abbrev pub IsHeapFault : Heap → List (List ℕ) → List Bool → Damage → FaultPlace → Type 0
 IsHeapFault heap list marks Shared place = IsChainFault list heap.first marks Shared place
-IsHeapFault heap list marks Chain place =
-    IsChainFault list heap.first marks Chain place ⊎ HasSlotFault heap list place
+IsHeapFault heap list marks BrokenHeap place =
+    IsChainFault list heap.first marks BrokenHeap place ⊎ HasSlotFault heap list place
 IsHeapFault heap list marks Node place = ⊥
 IsHeapFault heap list marks Order place = ⊥
-IsHeapFault heap list marks Count place = ⊥
+IsHeapFault heap list marks Index place = ⊥
+IsHeapFault heap list marks Lost place = ⊥

@@ -66,10 +66,10 @@ pub fn is_used(slot: &[u8], shape: SlotShape) -> bool
 }
 
 /// The stamps and the record of a slot in use.
-fn used(slot: &[u8], shape: SlotShape) -> Option<&[u8]>
+pub fn used(slot: &[u8], shape: SlotShape) -> Option<&[u8]>
     requires { size shape ≤ length slot.now }
     ensures value { option_map (λ bytes. bytes.now) result ≡ used_in shape slot.now }
-    ensures least { IfSome result (λ bytes. shape.stamps ≤ length bytes.now) }
+    ensures least { IfSome result (λ bytes. shape.stamps + shape.least ≤ length bytes.now) }
     ensures greatest { IfSome result (λ bytes. length bytes.now ≤ shape.stamps + shape.greatest) }
 {
     if !is_used(slot, shape) {

@@ -2,23 +2,21 @@
 
 use crate::checks::assert_equal_for;
 use crate::files::made;
-use file_checker::{Finding, check_bytes, examine_bytes, examine_file};
+use file_checker::{Verdict, check_bytes, check_file};
 use pages::PAGE_SIZE;
 use std::alloc::Global;
 use std::process::Abort;
 
 /// What is found of a reader that has these bytes.
-fn found_of_reader(alloc: Global, bytes: &[u8]) -> Option<Finding> {
+fn found_of_reader(alloc: Global, bytes: &[u8]) -> Option<Verdict> {
     let mut reader = bytes;
-    examine_file(alloc, &mut reader).ok()
+    check_file(alloc, &mut reader).ok()
 }
 
 /// The same is found of these bytes where they lie.
 fn is_alike(rt: &impl Abort, alloc: Global, which: usize, bytes: &[u8]) {
     let found = found_of_reader(alloc, bytes);
-    assert_equal_for(rt, which, examine_bytes(alloc, bytes).ok(), found);
-    let verdict = found.map(Finding::verdict);
-    assert_equal_for(rt, which, check_bytes(alloc, bytes).ok(), verdict);
+    assert_equal_for(rt, which, check_bytes(alloc, bytes).ok(), found);
 }
 
 // A body that counts the whole pages wrong fails here.

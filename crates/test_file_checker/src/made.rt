@@ -3,7 +3,7 @@
 use crate::checks::{assert_equal, assert_equal_for};
 use crate::files::made;
 use byteorder::{BigEndian, ByteOrder};
-use file_checker::{CheckFault, Finding, Reason, Verdict, check_file, examine_file};
+use file_checker::{CheckFault, Reason, Verdict, check_file};
 use pages::{FaultPlace, PAGE_SIZE};
 use std::alloc::Global;
 use std::process::Abort;
@@ -50,7 +50,8 @@ fn a_file_that_shrank_is_sound(rt: HostRuntime) {
 fn is_short(rt: &impl Abort, alloc: Global, bytes: &[u8], pages: usize) {
     let end = PAGE_SIZE.saturating_mul(pages).min(bytes.len());
     let found = check(alloc, &bytes[..end]);
-    assert_equal_for(rt, pages, found, Ok(Verdict::Unsound(Reason::Short)));
+    let short = Verdict::Unsound(Reason::Short, FaultPlace::File);
+    assert_equal_for(rt, pages, found, Ok(short));
 }
 
 #[test]
@@ -98,11 +99,7 @@ fn entries_that_are_exchanged_are_out_of_order(rt: HostRuntime) {
     let mut bytes = made(&rt, alloc, 2000, 0);
     let first = first_leaf(&rt, &bytes).saturating_add(16);
     exchanges(&rt, bytes.as_mut_slice(), first);
-    let unsound = Verdict::Unsound(Reason::Order);
-    assert_equal(&rt, check(alloc, &bytes), Ok(unsound));
     let page = u32::try_from(first / PAGE_SIZE).unwrap_or(0);
-    let place = FaultPlace::Entry { page, entry: 0 };
-    let mut reader = bytes.as_slice();
-    let found = examine_file(alloc, &mut reader);
-    assert_equal(&rt, found, Ok(Finding::Unsound(Reason::Order, place)));
+    let unsound = Verdict::Unsound(Reason::Order, FaultPlace::Entry { page, entry: 0 });
+    assert_equal(&rt, check(alloc, &bytes), Ok(unsound));
 }

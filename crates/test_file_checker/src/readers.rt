@@ -16,7 +16,7 @@ pub fn records_of(rt: &impl Abort, alloc: Global, bytes: &[u8]) -> Option<u64> {
             let pages = u64::from(pages);
             (Some(Standing { records, pages }), Some(records))
         }
-        Verdict::Unsound(_) => (None, None),
+        Verdict::Unsound(..) => (None, None),
     };
     assert_equal_for(rt, verdict, read(rt, alloc, bytes), standing);
     records

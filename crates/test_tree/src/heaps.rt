@@ -6,7 +6,7 @@ use crate::memory::{new_pages, page_of, put_byte};
 use io_state::Fault;
 use memory_shelf::MemoryPages;
 use page_walks::walk_heap;
-use pages::{FaultPlace, PageFault, PageList, WalkFault};
+use pages::{Damage, FaultPlace, PageList, WalkFault};
 use record_heap::{Heap, Place, SlotShape, heap_laws};
 use std::alloc::Global;
 use std::process::Abort;
@@ -271,12 +271,12 @@ fn a_heap_page_is_written_byte_for_byte(rt: HostRuntime) {
 }
 
 // A byte of a page of the heap that is changed, the fault that is told then, and what is wrong.
-const DAMAGES: [(usize, usize, u8, PageFault, FaultPlace, &str); 9] = [
+const DAMAGES: [(usize, usize, u8, Damage, FaultPlace, &str); 9] = [
     (
         2,
         7,
         2,
-        PageFault::Shared,
+        Damage::Shared,
         FaultPlace::Page(2),
         "a page that leads to itself",
     ),
@@ -284,7 +284,7 @@ const DAMAGES: [(usize, usize, u8, PageFault, FaultPlace, &str); 9] = [
         2,
         0,
         b'L',
-        PageFault::Chain,
+        Damage::Heap,
         FaultPlace::Page(2),
         "a page of another kind",
     ),
@@ -292,7 +292,7 @@ const DAMAGES: [(usize, usize, u8, PageFault, FaultPlace, &str); 9] = [
         1,
         1,
         1,
-        PageFault::Chain,
+        Damage::Heap,
         FaultPlace::Page(1),
         "a byte that should be zero",
     ),
@@ -300,7 +300,7 @@ const DAMAGES: [(usize, usize, u8, PageFault, FaultPlace, &str); 9] = [
         1,
         7,
         9,
-        PageFault::Chain,
+        Damage::Heap,
         FaultPlace::Page(1),
         "a page that is not there",
     ),
@@ -308,7 +308,7 @@ const DAMAGES: [(usize, usize, u8, PageFault, FaultPlace, &str); 9] = [
         1,
         16,
         2,
-        PageFault::Chain,
+        Damage::Heap,
         FaultPlace::Entry { page: 1, entry: 0 },
         "a mark that is none",
     ),
@@ -316,7 +316,7 @@ const DAMAGES: [(usize, usize, u8, PageFault, FaultPlace, &str); 9] = [
         1,
         16,
         0,
-        PageFault::Chain,
+        Damage::Heap,
         FaultPlace::Entry { page: 1, entry: 0 },
         "a free slot that nothing leads to",
     ),
@@ -324,7 +324,7 @@ const DAMAGES: [(usize, usize, u8, PageFault, FaultPlace, &str); 9] = [
         1,
         50,
         0,
-        PageFault::Chain,
+        Damage::Heap,
         FaultPlace::Entry { page: 1, entry: 2 },
         "another free slot that nothing leads to",
     ),
@@ -332,7 +332,7 @@ const DAMAGES: [(usize, usize, u8, PageFault, FaultPlace, &str); 9] = [
         1,
         141,
         9,
-        PageFault::Chain,
+        Damage::Heap,
         FaultPlace::Entry { page: 1, entry: 7 },
         "a link to a slot in use",
     ),
@@ -340,7 +340,7 @@ const DAMAGES: [(usize, usize, u8, PageFault, FaultPlace, &str); 9] = [
         1,
         139,
         9,
-        PageFault::Chain,
+        Damage::Heap,
         FaultPlace::Entry { page: 1, entry: 7 },
         "a link to a page that is not there",
     ),
@@ -366,7 +366,7 @@ fn a_walk_finds_the_pages_of_a_heap(rt: HostRuntime) {
     assert_equal(&rt, own.as_slice(), [2, 1].as_slice());
     assert_equal(&rt, reached, [false, true, true]);
     let again = walk_heap(rt.alloc(), &mut list, &heap, &mut reached).err();
-    let fault = WalkFault::of_page(PageFault::Shared, 2);
+    let fault = WalkFault::of_page(Damage::Shared, 2);
     assert_equal(&rt, again, Some(fault));
 }
 
@@ -391,7 +391,7 @@ fn begins_wrongly(rt: &impl Abort, alloc: Global, pages: &MemoryPages, heap: Hea
         pages: &pages.pages,
     };
     let found = walk_heap(alloc, &mut list, &heap, &mut [false; 2]).err();
-    let fault = WalkFault::of_page(PageFault::Chain, 0);
+    let fault = WalkFault::of_page(Damage::Heap, 0);
     assert_equal_for(rt, heap, found, Some(fault));
 }
 

@@ -5,7 +5,7 @@ use crate::checks::{assert_equal, assert_equal_for, assert_that};
 use crate::memory::{new_pages, put_byte};
 use bplus_tree::Tree;
 use page_walks::{Leaf, LeafSpot, trees_stay, walk_free, walk_tree, walks_part_the_file};
-use pages::{FaultPlace, PageFault, PageList, WalkFault, all_marked, mark};
+use pages::{Damage, FaultPlace, PageList, WalkFault, all_marked, mark};
 use std::alloc::Global;
 use std::process::Abort;
 use tree_node::NodeShape;
@@ -208,12 +208,12 @@ fn each_damage_of_a_tree_of_three_levels_has_its_fault(rt: HostRuntime) {
     // An inner node that has too little.
     let six = put_byte(&rt, &mut pages, 2, 3, 6);
     let found = fault_of_three_levels(&rt, rt.alloc(), &pages, 60);
-    assert_equal(&rt, found, Some(WalkFault::of_page(PageFault::Node, 2)));
+    assert_equal(&rt, found, Some(WalkFault::of_page(Damage::Node, 2)));
     put_byte(&rt, &mut pages, 2, 3, six);
     for &(n, at, byte, separator, what) in &DISORDERS {
         let was = put_byte(&rt, &mut pages, n, at, byte);
         let found = fault_of_three_levels(&rt, rt.alloc(), &pages, 64);
-        let fault = WalkFault::of_entry(PageFault::Order, n as u32, separator);
+        let fault = WalkFault::of_entry(Damage::Order, n as u32, separator);
         assert_equal_for(&rt, what, found, Some(fault));
         put_byte(&rt, &mut pages, n, at, was);
     }
@@ -221,12 +221,12 @@ fn each_damage_of_a_tree_of_three_levels_has_its_fault(rt: HostRuntime) {
 
 // A byte of the two leaves or their root that is changed, the fault that is told then, and what is
 // wrong.
-const DAMAGES: [(usize, usize, u8, PageFault, FaultPlace, &str); 13] = [
+const DAMAGES: [(usize, usize, u8, Damage, FaultPlace, &str); 13] = [
     (
         1,
         0,
         b'L',
-        PageFault::Node,
+        Damage::Node,
         FaultPlace::Page(1),
         "a leaf above leaves",
     ),
@@ -234,7 +234,7 @@ const DAMAGES: [(usize, usize, u8, PageFault, FaultPlace, &str); 13] = [
         2,
         0,
         b'I',
-        PageFault::Node,
+        Damage::Node,
         FaultPlace::Page(2),
         "an inner node among leaves",
     ),
@@ -242,7 +242,7 @@ const DAMAGES: [(usize, usize, u8, PageFault, FaultPlace, &str); 13] = [
         3,
         1,
         3,
-        PageFault::Node,
+        Damage::Node,
         FaultPlace::Page(3),
         "a leaf of another key",
     ),
@@ -250,7 +250,7 @@ const DAMAGES: [(usize, usize, u8, PageFault, FaultPlace, &str); 13] = [
         3,
         4,
         1,
-        PageFault::Node,
+        Damage::Node,
         FaultPlace::Page(3),
         "a byte that should be zero",
     ),
@@ -258,7 +258,7 @@ const DAMAGES: [(usize, usize, u8, PageFault, FaultPlace, &str); 13] = [
         2,
         3,
         9,
-        PageFault::Node,
+        Damage::Node,
         FaultPlace::Page(2),
         "more entries than fit",
     ),
@@ -266,7 +266,7 @@ const DAMAGES: [(usize, usize, u8, PageFault, FaultPlace, &str); 13] = [
         2,
         3,
         3,
-        PageFault::Node,
+        Damage::Node,
         FaultPlace::Page(2),
         "a leaf that has too little",
     ),
@@ -274,7 +274,7 @@ const DAMAGES: [(usize, usize, u8, PageFault, FaultPlace, &str); 13] = [
         1,
         3,
         0,
-        PageFault::Node,
+        Damage::Node,
         FaultPlace::Page(1),
         "an inner root without separators",
     ),
@@ -282,7 +282,7 @@ const DAMAGES: [(usize, usize, u8, PageFault, FaultPlace, &str); 13] = [
         1,
         19,
         4,
-        PageFault::Node,
+        Damage::Node,
         FaultPlace::Page(1),
         "a child that is not there",
     ),
@@ -290,7 +290,7 @@ const DAMAGES: [(usize, usize, u8, PageFault, FaultPlace, &str); 13] = [
         1,
         281,
         2,
-        PageFault::Shared,
+        Damage::Shared,
         FaultPlace::Page(2),
         "one child twice",
     ),
@@ -298,7 +298,7 @@ const DAMAGES: [(usize, usize, u8, PageFault, FaultPlace, &str); 13] = [
         1,
         19,
         1,
-        PageFault::Shared,
+        Damage::Shared,
         FaultPlace::Page(1),
         "a root that is its own child",
     ),
@@ -306,7 +306,7 @@ const DAMAGES: [(usize, usize, u8, PageFault, FaultPlace, &str); 13] = [
         2,
         524,
         10,
-        PageFault::Order,
+        Damage::Order,
         FaultPlace::Entry { page: 2, entry: 0 },
         "a key twice",
     ),
@@ -314,7 +314,7 @@ const DAMAGES: [(usize, usize, u8, PageFault, FaultPlace, &str); 13] = [
         2,
         1540,
         20,
-        PageFault::Order,
+        Damage::Order,
         FaultPlace::Entry { page: 2, entry: 3 },
         "a key that is not below its separator",
     ),
@@ -322,7 +322,7 @@ const DAMAGES: [(usize, usize, u8, PageFault, FaultPlace, &str); 13] = [
         3,
         16,
         19,
-        PageFault::Order,
+        Damage::Order,
         FaultPlace::Entry { page: 3, entry: 0 },
         "a key below its separator",
     ),
@@ -330,15 +330,15 @@ const DAMAGES: [(usize, usize, u8, PageFault, FaultPlace, &str); 13] = [
 
 // Where the root is, its levels and entries, and the fault that is told. A root that is not there is
 // told at page 0.
-const WRONG_ROOTS: [(u32, u8, u64, PageFault, u32); 8] = [
-    (1, 1, 7, PageFault::Count, 1),
-    (1, 1, 9, PageFault::Count, 1),
-    (1, 0, 8, PageFault::Node, 1),
-    (1, 2, 8, PageFault::Node, 2),
-    (2, 0, 8, PageFault::Count, 2),
-    (0, 0, 0, PageFault::Node, 0),
-    (4, 0, 0, PageFault::Node, 0),
-    (1, 19, 8, PageFault::Node, 2),
+const WRONG_ROOTS: [(u32, u8, u64, Damage, u32); 8] = [
+    (1, 1, 7, Damage::Index, 1),
+    (1, 1, 9, Damage::Index, 1),
+    (1, 0, 8, Damage::Node, 1),
+    (1, 2, 8, Damage::Node, 2),
+    (2, 0, 8, Damage::Index, 2),
+    (0, 0, 0, Damage::Node, 0),
+    (4, 0, 0, Damage::Node, 0),
+    (1, 19, 8, Damage::Node, 2),
 ];
 
 #[test]
@@ -406,7 +406,7 @@ fn the_free_pages_are_walked(rt: HostRuntime) {
     );
     assert_equal(&rt, reached, [false, true, false, true]);
     let again = walk_free(&mut PageList { pages: &pages }, 3, 2, &mut reached);
-    assert_equal(&rt, again, Err(WalkFault::of_page(PageFault::Shared, 3)));
+    assert_equal(&rt, again, Err(WalkFault::of_page(Damage::Shared, 3)));
     assert_equal(
         &rt,
         walk_free(&mut PageList { pages: &pages }, 0, 0, &mut reached),
@@ -419,19 +419,19 @@ fn the_free_pages_are_walked(rt: HostRuntime) {
             count,
             &mut [false; 4],
         );
-        let fault = WalkFault::of_page(PageFault::Chain, page);
+        let fault = WalkFault::of_page(Damage::Heap, page);
         assert_equal_for(&rt, (first, count), found, Err(fault));
     }
 }
 
 // A byte of the free pages that is changed, the fault that is told then, and what is wrong.
-const FREE_DAMAGES: [(usize, usize, u8, PageFault, u32, &str); 6] = [
-    (3, 7, 3, PageFault::Shared, 3, "a page that leads to itself"),
-    (3, 7, 2, PageFault::Chain, 2, "a page that is not free"),
-    (1, 1, 1, PageFault::Chain, 1, "a byte that should be zero"),
-    (1, 7, 4, PageFault::Chain, 1, "a chain that does not end"),
-    (3, 7, 4, PageFault::Chain, 3, "a page that is not there"),
-    (3, 7, 0, PageFault::Chain, 3, "a chain that ends too early"),
+const FREE_DAMAGES: [(usize, usize, u8, Damage, u32, &str); 6] = [
+    (3, 7, 3, Damage::Shared, 3, "a page that leads to itself"),
+    (3, 7, 2, Damage::Heap, 2, "a page that is not free"),
+    (1, 1, 1, Damage::Heap, 1, "a byte that should be zero"),
+    (1, 7, 4, Damage::Heap, 1, "a chain that does not end"),
+    (3, 7, 4, Damage::Heap, 3, "a page that is not there"),
+    (3, 7, 0, Damage::Heap, 3, "a chain that ends too early"),
 ];
 
 #[test]

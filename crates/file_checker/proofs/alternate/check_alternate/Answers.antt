@@ -3,7 +3,7 @@ use Rattle.file_checker.specs.RowsAhead.{AlternateAhead}
 use Rattle.file_checker.specs.Leading.{HasRow}
 use Rattle.file_checker.proofs.SpotLemmas.{each_in}
 use Rattle.file_checker.proofs.PrimeAheadLemmas.{on_err, refuses_rows, rows_ahead}
-use Rattle.file_checker.specs.declared.row_fault.RowFault.{RowFault}
+use Rattle.pages.specs.declared.walk_fault.WalkFault.{WalkFault}
 use Rattle.file_checker.specs.RowsAhead.{PrimesLead}
 use Rattle.file_checker.specs.RowFaults.{IsAlternateFault, TellsOfRows}
 use Rattle.file_checker.proofs.RowFaultLemmas.{never_ok, rows_on}
@@ -30,6 +30,6 @@ returns-in_err-check_leaves-clause-compares g c = λ list has.
     record {
       stands = never_ok _ c.from_residual.result _ c.from_residual.ensures.1;
       refused = refuses_rows Ahead c.from_residual.result (on_err (Ahead → ⊥) c.from_residual.result (λ ahead. (c.in_err-check_leaves.ensures.checks list has).refused ahead.primes_lead (rows_ahead file list primes c.args.index leaves ahead)));
-      told = rows_on (λ (fault : RowFault). PrimesLead file list primes → TellsOfRows (IsAlternateFault file list primes c.args.index leaves) fault) c.from_residual.result _ c.from_residual.ensures.1
+      told = rows_on (λ (fault : WalkFault). PrimesLead file list primes → TellsOfRows (IsAlternateFault file list primes c.args.index leaves) fault) c.from_residual.result _ c.from_residual.ensures.1
           (c.in_err-check_leaves.ensures.checks list has).told;
     }

@@ -26,6 +26,6 @@ returns-then-not-has_row-clause-checks g c = λ list has.
       stands = tt;
       refused = λ lead all. never (c.if-not-has_row.ensures.refused list has lead (each_place Ahead c.args.leaf.page c.args.leaf.count c.loop-place.place c.loop-place-test.true all));
       told = λ lead.
-          entry_told (spots_below c.args.leaf.page c.args.leaf.count) Ahead (record { page = c.args.leaf.page; place = c.loop-place.place }) _ c.of_entry.ensures
+          entry_told (spots_below c.args.leaf.page c.args.leaf.count) Ahead (record { page = c.args.leaf.page; place = c.loop-place.place }) _ c.entry_of_no_row.ensures
           (one_below c.args.leaf.page c.args.leaf.count c.loop-place.place c.loop-place-test.true) (λ ahead. never (c.if-not-has_row.ensures.refused list has lead ahead));
     }

@@ -35,6 +35,6 @@ returns-then-not-has_entry-clause-checks g c = λ list has.
       stands = tt;
       refused = λ lead all. never (c.if-not-has_entry.ensures.refused list has lead (all (record { page = c.args.n; slot = c.loop-i.i }) refl (omega (arith, many, within))));
       told = λ lead.
-          slot_told c.args.file.now list (spots_in c.args.primes.now) (record { page = c.args.n; slot = c.loop-i.i }) _ c.of_slot.ensures (omega (arith, many, within))
+          slot_told c.args.file.now list (spots_in c.args.primes.now) (record { page = c.args.n; slot = c.loop-i.i }) _ c.slot_without_entry.ensures (omega (arith, many, within))
           (λ entry. never (c.if-not-has_entry.ensures.refused list has lead entry));
     }

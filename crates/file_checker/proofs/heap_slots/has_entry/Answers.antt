@@ -1,4 +1,4 @@
-use Rattle.std.proofs.Common.{◌≡◌, ap, sym, ◌∙◌, Some, None, List, ℕ, Option}
+use Rattle.std.proofs.Common.{◌≡◌, sym, ◌∙◌, Some, None, List, ℕ}
 use Rattle.record_layout.specs.Schema.{prime_of}
 use Rattle.page_walks.specs.Spots.{spots_in}
 use Rattle.pages.specs.PageList.{pages_in}
@@ -6,7 +6,7 @@ use Rattle.record_heap.specs.Standing.{slot_off}
 use Rattle.open_file.specs.Fields.{file_schema, heap_of}
 use Rattle.file_checker.specs.Leading.{stored_row}
 use Rattle.file_checker.specs.Lent.{prime_value_off}
-use Rattle.file_checker.proofs.LentLemmas.{made_of, made_of_none}
+use Rattle.file_checker.proofs.LentLemmas.{made_of}
 use Rattle.file_checker.specs.Rows.{place_at}
 use Rattle.file_checker.proofs.PrimeAheadLemmas.{slot_found, slot_is}
 use Rattle.file_checker.proofs.SlotLemmas.{found_one}

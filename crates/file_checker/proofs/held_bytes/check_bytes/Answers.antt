@@ -1,7 +1,8 @@
-use Rattle.std.proofs.Common.{sym, subst}
-use Rattle.file_checker.specs.Sound.{IsRight}
-use Rattle.file_checker.proofs.SoundLemmas.{verdict_right}
+use Rattle.std.proofs.Common.{List, ℕ, Option, Bor, ap, sym, ◌∙◌}
+use Rattle.std.specs.Option.{option_copied}
+use Rattle.file_checker.proofs.HeldLemmas.{first_of_pages}
 use Rattle.file_checker.proofs.held_bytes.check_bytes.Goals as goal
 
-pub returns : goal.returns
-returns c = subst (IsRight c.args.bytes.now) (sym c.verdict.ensures) (verdict_right c.args.bytes.now c.in_ok-finding.finding c.in_ok-finding.ensures)
+pub check_from-requires-clause-first : goal.check_from-requires-clause-first
+check_from-requires-clause-first c =
+    first_of_pages c.args.bytes.now c.pages_in-pages.result.now c.in-Some.first.now c.pages_in-pages.ensures (sym c.first.ensures.value ∙ ap (λ (o : Option (Bor (List ℕ))). option_copied o) c.in-Some.is)

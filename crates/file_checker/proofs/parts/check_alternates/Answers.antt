@@ -11,7 +11,8 @@ use Rattle.file_checker.specs.Alternate.{AlternateStands}
 use Rattle.bplus_tree.specs.Fields.{tree_shape}
 use Rattle.file_checker.proofs.AlternateLemmas.{entries_rise, alternates_more, spots_many}
 use Rattle.file_checker.specs.Parts.{AlternatesFound}
-use Rattle.file_checker.proofs.AlternatesAheadLemmas.{alternate_ahead, alternates_next, stopped_by_rows, stopped_by_walk, tree_ahead}
+use Rattle.file_checker.proofs.AlternatesAheadLemmas.{alternate_ahead, alternates_next, tree_ahead}
+use Rattle.pages.proofs.RefusedLemmas.{handed_on}
 use Rattle.file_checker.specs.RowsAhead.{PrimesLead}
 use Rattle.file_checker.specs.RowFaults.{IsAlternateFault, TellsOfRows}
 use Rattle.file_checker.proofs.FaultLemmas.{reached_next, told_of_entries, told_of_tree}
@@ -95,7 +96,7 @@ returns-in_err-leaves-clause-refused g c = λ list has.
     let same = c.alternates-index-items.ensures.value in
     let within : c.loop-index.index-index < length (alternates_of file) = (let test = c.loop-index-test.true in let long = ap length same in omega arith) in
     let is : index ≡ slice_index_or (alternates_of file) c.loop-index.index-index index = c.index-item.is ∙ ap (λ (l : List AltIndex). slice_index_or l c.loop-index.index-index index) same in
-    stopped_by_walk _ _ c.from_residual.result _ c.from_residual.ensures.1
+    handed_on _ _ c.from_residual.result _ c.from_residual.ensures.1
     (λ first. tree_ahead file list c.args.primes.now c.loop-index.index-index index within is c.loop-index.reached (c.loop-index.invariant.ahead list (c.walk_tree.ensures.before list has) first))
     (c.in_err-leaves.ensures.refused list has)
 
@@ -108,7 +109,7 @@ returns-in_err-check_alternate-clause-refused g c = λ list has.
     let within : c.loop-index.index-index < length (alternates_of file) = (let test = c.loop-index-test.true in let long = ap length same in omega arith) in
     let is : index ≡ slice_index_or (alternates_of file) c.loop-index.index-index index = c.index-item.is ∙ ap (λ (l : List AltIndex). slice_index_or l c.loop-index.index-index index) same in
     let h_tree = c.check_alternate.ensures.before list has in
-    stopped_by_rows _ _ c.from_residual-in_err-check_alternate.result _ c.from_residual-in_err-check_alternate.ensures.1
+    handed_on _ _ c.from_residual-in_err-check_alternate.result _ c.from_residual-in_err-check_alternate.ensures.1
     (λ first. subst (AlternateAhead file list primes index) (sym c.deref.ensures.value)
     (alternate_ahead file list primes c.loop-index.index-index index within is c.loop-index.reached c.walk_tree.new.reached c.in_ok-leaves.leaves.items (c.in_ok-leaves.ensures.walked list h_tree)
     (c.loop-index.invariant.ahead list (c.walk_tree.ensures.before list h_tree) first) (c.in_ok-leaves.ensures.there list h_tree))) (c.in_err-check_alternate.ensures.compares list has).refused

@@ -8,10 +8,9 @@ use Rattle.page_walks.specs.TreeFaults.{IsTreeFault}
 use Rattle.page_walks.specs.TreeWalk.{TreeWalked}
 use Rattle.record_heap.specs.Faults.{IsHeapFault}
 use Rattle.record_heap.specs.Standing.{HeapStands}
-use Rattle.file_checker.specs.RowsAhead.{PrimesLead}
 use Rattle.file_checker.specs.RowFaults.{IsRowFault, TellsOfRows}
 use Rattle.file_checker.specs.Search.{IsPrimeLeaf}
-use Rattle.file_checker.specs.Later.{TellsOfIndexes}
+use Rattle.file_checker.specs.Later.{TellsOfAlternates}
 use Rattle.file_checker.proofs.FaultLemmas.{all_are_marked, before_alternates, before_free, before_heap, before_prime, is_unmarked, tells_indexes, tells_rows, tells_walk}
 use Rattle.pages.specs.Marks.{marked_in}
 use Rattle.pages.specs.PageList.{pages_in}
@@ -27,7 +26,7 @@ use Rattle.file_checker.specs.Ahead.{AlternatesAhead}
 use Rattle.file_checker.specs.Parts.{AlternatesFound}
 use Rattle.file_checker.proofs.AlternateLemmas.{prime_rise, spots_many}
 use Rattle.file_checker.proofs.AheadLemmas.{alternates_ahead, free_ahead, heap_ahead, none_lost, prime_ahead, rows_ahead}
-use Rattle.file_checker.proofs.AlternatesAheadLemmas.{checks_by_rows, checks_by_walk, checks_stopped}
+use Rattle.file_checker.proofs.AlternatesAheadLemmas.{checks_by_walk}
 use Rattle.file_checker.proofs.StandLemmas.{Found, pages_stand, leaves_out}
 use Rattle.file_checker.proofs.parts.check_parts.Goals as goal
 use Rattle.open_file.specs.Fields.{alternates_of, heap_of, prime_index_of}
@@ -62,7 +61,7 @@ returns-clause-checks g c = λ list has.
     let file = c.from_header-file.result in
     let rows : RowsStand file list c.in_ok-own.own.items (spots_in c.in_ok-primes.primes.items) =
     subst (λ (own : List ℕ). RowsStand file list own (spots_in c.in_ok-primes.primes.items)) c.deref.ensures.value
-    (subst (λ (primes : List Leaf). RowsStand file list c.deref.result.now (spots_in primes)) c.deref-2.ensures.value (c.in_ok-check_rows.ensures.stand list h_rows)) in
+    (subst (λ (primes : List Leaf). RowsStand file list c.deref.result.now (spots_in primes)) c.deref-2.ensures.value (c.in_ok-check_rows.ensures.compares list h_rows).stand) in
     let alternates : AlternatesFound file list (spots_in c.in_ok-primes.primes.items) (length (alternates_of file)) (marked_in c.walk_tree.new.reached) (marked_in c.check_alternates.new.reached) =
     subst (λ (primes : List Leaf). AlternatesFound file list (spots_in primes) (length (alternates_of file)) (marked_in c.walk_tree.new.reached) (marked_in c.check_alternates.new.reached)) c.deref-3.ensures.value
     (c.in_ok-check_alternates.ensures.found list has) in
@@ -183,12 +182,12 @@ returns-in_err-check_rows-clause-checks g c = λ list has.
     let start_long : length c.walk_free.new.reached ≡ length list = (let b = c.walk_free.auto.reached in omega (arith, b, zero_long)) in
     let heap_long : length c.walk_heap.new.reached ≡ length c.walk_free.new.reached = (let d = c.walk_heap.auto.reached in omega (arith, d)) in
     let prime_long : length c.walk_tree.new.reached ≡ length c.walk_heap.new.reached = (let d = c.walk_tree.auto.reached in omega (arith, d)) in
-    checks_by_rows header list _ c.from_residual-in_err-check_rows.result _ c.from_residual-in_err-check_rows.ensures.1
+    checks_by_walk header list _ c.from_residual-in_err-check_rows.result _ c.from_residual-in_err-check_rows.ensures.1
     (λ p. subst (λ (own : List ℕ). RowsAhead file list own c.deref-2.result.now) (sym c.deref.ensures.value)
     (subst (RowsAhead file list c.in_ok-own.own.items) (sym c.deref-2.ensures.value)
     (rows_ahead header list (marked_in c.args.reached.now) may.clear c.mark.new.reached zero_long c.in_ok-mark.ensures.marked c.walk_free.new.reached start_long (c.in_ok-walk_free.ensures.walked list h_free) c.requires.header may.counted file c.from_header-file.ensures p c.walk_heap.new.reached heap_long c.in_ok-own.own.items
     (slots_of (slot_shape (heap_of file)) (pages_in list) c.in_ok-own.own.items) (rw c.heap.ensures at (c.in_ok-own.ensures.walked list h_own).stands) (c.in_ok-own.ensures.walked list h_own).marks c.walk_tree.new.reached prime_long c.in_ok-primes.primes.items (rw c.prime.ensures at (c.in_ok-primes.ensures.walked list h_primes))
-    refl (rw c.prime.ensures at (c.in_ok-primes.ensures.there list h_primes))))) (c.in_err-check_rows.ensures.refused list has)
+    refl (rw c.prime.ensures at (c.in_ok-primes.ensures.there list h_primes))))) (c.in_err-check_rows.ensures.compares list has).refused
     (let heap : HeapStands (heap_of file) (pages_in list) (slots_of (slot_shape (heap_of file)) (pages_in list) c.in_ok-own.own.items) c.in_ok-own.own.items = rw c.heap.ensures at (c.in_ok-own.ensures.walked list h_own).stands in
     let walked : TreeWalked (prime_index_of file).tree list (marked_in c.walk_heap.new.reached) (marked_in c.walk_tree.new.reached) (spots_in c.in_ok-primes.primes.items) = rw c.prime.ensures at (c.in_ok-primes.ensures.walked list h_primes) in
     let there : Each (IsPrimeLeaf file list) c.in_ok-primes.primes.items = rw c.prime.ensures at (c.in_ok-primes.ensures.there list h_primes) in
@@ -203,7 +202,7 @@ returns-in_err-check_rows-clause-checks g c = λ list has.
         wrong = h;
       });
     }) (subst (λ (own : List ℕ). TellsOfRows (IsRowFault file list own c.in_ok-primes.primes.items) c.in_err-check_rows.field-0.0) c.deref.ensures.value
-    (subst (λ (primes : List Leaf). Each (IsPrimeLeaf file list) primes → TellsOfRows (IsRowFault file list c.deref.result.now primes) c.in_err-check_rows.field-0.0) c.deref-2.ensures.value (c.in_err-check_rows.ensures.told list has) there)))
+    (subst (λ (primes : List Leaf). Each (IsPrimeLeaf file list) primes → TellsOfRows (IsRowFault file list c.deref.result.now primes) c.in_err-check_rows.field-0.0) c.deref-2.ensures.value (c.in_err-check_rows.ensures.compares list has).told there)))
 
 pub returns-in_err-check_alternates-clause-checks : goal.returns-in_err-check_alternates-clause-checks
 returns-in_err-check_alternates-clause-checks g c = λ list has.
@@ -221,18 +220,7 @@ returns-in_err-check_alternates-clause-checks g c = λ list has.
     let heap_long : length c.walk_heap.new.reached ≡ length c.walk_free.new.reached = (let d = c.walk_heap.auto.reached in omega (arith, d)) in
     let prime_long : length c.walk_tree.new.reached ≡ length c.walk_heap.new.reached = (let d = c.walk_tree.auto.reached in omega (arith, d)) in
     let rise = prime_rise file list (marked_in c.walk_heap.new.reached) (marked_in c.walk_tree.new.reached) (spots_in c.in_ok-primes.primes.items) (rw c.prime.ensures at (c.in_ok-primes.ensures.walked list h_primes)) in
-    checks_stopped header list _ c.from_residual-in_err-check_alternates.result _ c.from_residual-in_err-check_alternates.ensures.1
-    (let heap : HeapStands (heap_of file) (pages_in list) (slots_of (slot_shape (heap_of file)) (pages_in list) c.in_ok-own.own.items) c.in_ok-own.own.items = rw c.heap.ensures at (c.in_ok-own.ensures.walked list h_own).stands in
-    let walked : TreeWalked (prime_index_of file).tree list (marked_in c.walk_heap.new.reached) (marked_in c.walk_tree.new.reached) (spots_in c.in_ok-primes.primes.items) = rw c.prime.ensures at (c.in_ok-primes.ensures.walked list h_primes) in
-    let there : Each (IsPrimeLeaf file list) c.in_ok-primes.primes.items = rw c.prime.ensures at (c.in_ok-primes.ensures.there list h_primes) in
-    let stand : RowsStand file list c.in_ok-own.own.items (spots_in c.in_ok-primes.primes.items) =
-    subst (λ (own : List ℕ). RowsStand file list own (spots_in c.in_ok-primes.primes.items)) c.deref.ensures.value
-    (subst (λ (primes : List Leaf). RowsStand file list c.deref.result.now (spots_in primes)) c.deref-2.ensures.value (c.in_ok-check_rows.ensures.stand list h_rows)) in
-    tells_indexes header list file c.from_header-file.ensures c.in_ok-primes.primes.items (record { own = walked.own; stands = walked.stands; there = there }) c.walk_tree.new.reached (prime_long ∙ heap_long ∙ start_long)
-    (before_alternates header list (marked_in c.args.reached.now) may.clear c.mark.new.reached c.in_ok-mark.ensures.marked c.walk_free.new.reached (c.in_ok-walk_free.ensures.walked list h_free) file c.walk_heap.new.reached c.in_ok-own.own.items
-    heap.chain (c.in_ok-own.ensures.walked list h_own).marks c.walk_tree.new.reached prime_long (rw c.prime.ensures at (c.in_ok-primes.ensures.marks list h_primes))) _
-    (subst (λ (primes : List Leaf). PrimesLead file list primes → TellsOfIndexes file list primes c.walk_tree.new.reached c.in_err-check_alternates.field-0.0) c.deref-3.ensures.value (c.in_err-check_alternates.ensures.told list has)
-    (primes_lead file list c.in_ok-own.own.items c.in_ok-primes.primes.items rise (record { there = there; stand = stand }))))
+    checks_by_walk header list _ c.from_residual-in_err-check_alternates.result _ c.from_residual-in_err-check_alternates.ensures.1
     (λ p. subst (λ (primes : List Leaf). AlternatesAhead file list primes 0 c.walk_tree.new.reached) (sym c.deref-3.ensures.value)
     (alternates_ahead header list (marked_in c.args.reached.now) may.clear c.mark.new.reached zero_long c.in_ok-mark.ensures.marked c.walk_free.new.reached start_long (c.in_ok-walk_free.ensures.walked list h_free) c.requires.header may.counted file c.from_header-file.ensures p c.walk_heap.new.reached heap_long c.in_ok-own.own.items
     (slots_of (slot_shape (heap_of file)) (pages_in list) c.in_ok-own.own.items) (rw c.heap.ensures at (c.in_ok-own.ensures.walked list h_own).stands) (c.in_ok-own.ensures.walked list h_own).marks c.walk_tree.new.reached prime_long c.in_ok-primes.primes.items (rw c.prime.ensures at (c.in_ok-primes.ensures.walked list h_primes))
@@ -240,6 +228,17 @@ returns-in_err-check_alternates-clause-checks g c = λ list has.
     (rows_ahead header list (marked_in c.args.reached.now) may.clear c.mark.new.reached zero_long c.in_ok-mark.ensures.marked c.walk_free.new.reached start_long (c.in_ok-walk_free.ensures.walked list h_free) c.requires.header may.counted file c.from_header-file.ensures p c.walk_heap.new.reached heap_long c.in_ok-own.own.items
     (slots_of (slot_shape (heap_of file)) (pages_in list) c.in_ok-own.own.items) (rw c.heap.ensures at (c.in_ok-own.ensures.walked list h_own).stands) (c.in_ok-own.ensures.walked list h_own).marks c.walk_tree.new.reached prime_long c.in_ok-primes.primes.items (rw c.prime.ensures at (c.in_ok-primes.ensures.walked list h_primes))
     refl (rw c.prime.ensures at (c.in_ok-primes.ensures.there list h_primes)))))) (c.in_err-check_alternates.ensures.refused list has)
+    (let heap : HeapStands (heap_of file) (pages_in list) (slots_of (slot_shape (heap_of file)) (pages_in list) c.in_ok-own.own.items) c.in_ok-own.own.items = rw c.heap.ensures at (c.in_ok-own.ensures.walked list h_own).stands in
+    let walked : TreeWalked (prime_index_of file).tree list (marked_in c.walk_heap.new.reached) (marked_in c.walk_tree.new.reached) (spots_in c.in_ok-primes.primes.items) = rw c.prime.ensures at (c.in_ok-primes.ensures.walked list h_primes) in
+    let there : Each (IsPrimeLeaf file list) c.in_ok-primes.primes.items = rw c.prime.ensures at (c.in_ok-primes.ensures.there list h_primes) in
+    let stand : RowsStand file list c.in_ok-own.own.items (spots_in c.in_ok-primes.primes.items) =
+    subst (λ (own : List ℕ). RowsStand file list own (spots_in c.in_ok-primes.primes.items)) c.deref.ensures.value
+    (subst (λ (primes : List Leaf). RowsStand file list c.deref.result.now (spots_in primes)) c.deref-2.ensures.value (c.in_ok-check_rows.ensures.compares list h_rows).stand) in
+    tells_indexes header list file c.from_header-file.ensures c.in_ok-primes.primes.items (record { own = walked.own; stands = walked.stands; there = there }) c.walk_tree.new.reached (prime_long ∙ heap_long ∙ start_long)
+    (before_alternates header list (marked_in c.args.reached.now) may.clear c.mark.new.reached c.in_ok-mark.ensures.marked c.walk_free.new.reached (c.in_ok-walk_free.ensures.walked list h_free) file c.walk_heap.new.reached c.in_ok-own.own.items
+    heap.chain (c.in_ok-own.ensures.walked list h_own).marks c.walk_tree.new.reached prime_long (rw c.prime.ensures at (c.in_ok-primes.ensures.marks list h_primes))) _
+    (subst (λ (primes : List Leaf). TellsOfAlternates file list primes c.walk_tree.new.reached c.in_err-check_alternates.field-0.0) c.deref-3.ensures.value (c.in_err-check_alternates.ensures.told list has)
+    (primes_lead file list c.in_ok-own.own.items c.in_ok-primes.primes.items rise (record { there = there; stand = stand }))))
 
 pub returns-in-Some-clause-checks : goal.returns-in-Some-clause-checks
 returns-in-Some-clause-checks g c = λ list has.
@@ -252,7 +251,7 @@ returns-in-Some-clause-checks g c = λ list has.
     let file = c.from_header-file.result in
     let rows : RowsStand file list c.in_ok-own.own.items (spots_in c.in_ok-primes.primes.items) =
     subst (λ (own : List ℕ). RowsStand file list own (spots_in c.in_ok-primes.primes.items)) c.deref.ensures.value
-    (subst (λ (primes : List Leaf). RowsStand file list c.deref.result.now (spots_in primes)) c.deref-2.ensures.value (c.in_ok-check_rows.ensures.stand list h_rows)) in
+    (subst (λ (primes : List Leaf). RowsStand file list c.deref.result.now (spots_in primes)) c.deref-2.ensures.value (c.in_ok-check_rows.ensures.compares list h_rows).stand) in
     let alternates : AlternatesFound file list (spots_in c.in_ok-primes.primes.items) (length (alternates_of file)) (marked_in c.walk_tree.new.reached) (marked_in c.check_alternates.new.reached) =
     subst (λ (primes : List Leaf). AlternatesFound file list (spots_in primes) (length (alternates_of file)) (marked_in c.walk_tree.new.reached) (marked_in c.check_alternates.new.reached)) c.deref-3.ensures.value
     (c.in_ok-check_alternates.ensures.found list has) in

@@ -26,5 +26,5 @@ returns-then-not-leads_to_row-clause-refused g c = λ list has all.
 
 pub returns-then-not-leads_to_row-clause-told : goal.returns-then-not-leads_to_row-clause-told
 returns-then-not-leads_to_row-clause-told g c = λ list has.
-    entry_told (spots_below c.args.leaf.page c.args.leaf.count) (LeadsAhead c.args.file.now list c.args.marks.now) (record { page = c.args.leaf.page; place = c.loop-place.place }) _ c.of_entry.ensures
+    entry_told (spots_below c.args.leaf.page c.args.leaf.count) (LeadsAhead c.args.file.now list c.args.marks.now) (record { page = c.args.leaf.page; place = c.loop-place.place }) _ c.entry_of_no_row.ensures
     (one_below c.args.leaf.page c.args.leaf.count c.loop-place.place c.loop-place-test.true) (λ ahead. never (c.if-not-leads_to_row.ensures.refused list has ahead))

@@ -9,7 +9,7 @@ use Rattle.file_checker.proofs.SpotLemmas.{each_more}
 use Rattle.std.proofs.Common.{slice_index_or}
 use Rattle.page_walks.specs.Spots.{spots_below}
 use Rattle.page_walks.specs.declared.leaf.Leaf.{Leaf}
-use Rattle.file_checker.specs.RowFaults.{IsEntryFault, TellsOfRows}
+use Rattle.file_checker.specs.RowFaults.{IsEntryFault, TellsOfLeading}
 use Rattle.file_checker.proofs.RowFaultLemmas.{entry_more, one_of_leaf, rows_more, rows_on}
 use Rattle.file_checker.proofs.prime_rows.check_leaves.Goals as goal
 
@@ -40,6 +40,6 @@ returns-in_err-check_leaf-clause-told g c = λ list has.
     let none : Leaf = record { page = 0; count = 0 } in
     let leaf = slice_index_or primes i none in
     let Ahead = LeadsAhead c.args.file.now list c.args.marks.now in
-    rows_on (TellsOfRows (IsEntryFault (spots_in primes) Ahead)) c.from_residual.result _ c.from_residual.ensures.1
+    rows_on (TellsOfLeading c.args.file.now list c.args.marks.now (spots_in primes)) c.from_residual.result _ c.from_residual.ensures.1
     (rows_more (IsEntryFault (spots_below leaf.page leaf.count) Ahead) (IsEntryFault (spots_in primes) Ahead) _
     (entry_more (spots_below leaf.page leaf.count) (spots_in primes) Ahead Ahead (one_of_leaf primes i none c.loop-leaf-test.true) (λ spot a. a)) (c.in_err-check_leaf.ensures.told list has))

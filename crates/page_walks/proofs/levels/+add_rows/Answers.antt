@@ -1,54 +1,30 @@
-use Rattle.std.proofs.Common.{◌≡◌, ◌<◌, ◌-◌, ◌^◌, ℕ, suc, List, [], ◌∷◌, ◌++◌, length, arith, ap, sym, subst, ◌∙◌}
-use Rattle.std.specs.Prelude.{IfOk}
+use Rattle.std.proofs.Common.{◌≡◌, ◌-◌, ◌∙◌, ◌++◌, ◌∷◌, [], ℕ, suc, List, arith, ap, sym, subst}
 use Rattle.pages.specs.Each.{Each}
 use Rattle.page_walks.specs.declared.level.Level.{Level}
-use Rattle.page_walks.specs.Rows.{IsInnerIn, IsLeafIn, AreNodes, children_in, entries_in_row, leaves_in, levels_in, leaf_level}
+use Rattle.page_walks.specs.Rows.{AddsRows, IsInnerIn, children_in, inner_level}
+use Rattle.page_walks.proofs.RowLemmas.{adds_below, adds_none, inner_row}
 use Rattle.page_walks.proofs.levels.+add_rows.Goals as goal
 
--- ---- a row of leaves
+pub returns-in_err-below-clause-added : goal.returns-in_err-below-clause-added
+returns-in_err-below-clause-added g m c = λ list has.
+    adds_none c.args.shape list c.args.height c.args.row.items c.args.levels.now.items c.args.levels.now.items (Each (IsInnerIn c.args.shape list) c.deref-2.result.now)
+    c.from_residual-in_err-below.result _ c.from_residual-in_err-below.ensures.1
+    (λ nodes. subst (Each (IsInnerIn c.args.shape list)) (sym c.deref-2.ensures.value) (inner_row c.args.shape list c.args.height c.args.row.items c.if-height-eq0.false nodes))
+    (c.in_err-below.ensures.refused list has)
 
-pub leaf_counts-requires : goal.leaf_counts-requires
-leaf_counts-requires m c =
-    record {
-      leaves = subst (λ (row : List ℕ). Each (IsLeafIn c.args.shape c.args.pages.now) row) (sym c.deref.ensures.value)
-          (subst (λ (k : ℕ). AreNodes c.args.shape c.args.pages.now k c.args.row.items) c.if-height-eq0.true c.requires.nodes);
-      few = subst (λ (row : List ℕ). length (entries_in_row c.args.shape c.args.pages.now row) < 2 ^ 64) (sym c.deref.ensures.value)
-          (subst (λ (k : ℕ). length (entries_in_row c.args.shape c.args.pages.now (leaves_in c.args.shape c.args.pages.now k c.args.row.items)) < 2 ^ 64) c.if-height-eq0.true c.requires.few);
-    }
-
-pub returns-then-height-eq0-clause-levels : goal.returns-then-height-eq0-clause-levels
-returns-then-height-eq0-clause-levels m c =
-    let level : c.leaf_counts.result ≡ leaf_level c.args.shape c.args.pages.now c.args.row.items = c.leaf_counts.ensures ∙ ap (leaf_level c.args.shape c.args.pages.now) c.deref.ensures.value in
-    c.in_ok-push_level.ensures
-    ∙ ap (λ (more : List Level). c.args.levels.now.items ++ more) (ap (λ (one : Level). one ∷ []) level ∙ sym (ap (λ (k : ℕ). levels_in c.args.shape c.args.pages.now k c.args.row.items) c.if-height-eq0.true))
-
-pub returns-then-height-eq0-clause-leaves : goal.returns-then-height-eq0-clause-leaves
-returns-then-height-eq0-clause-leaves m c = sym (ap (λ (k : ℕ). leaves_in c.args.shape c.args.pages.now k c.args.row.items) c.if-height-eq0.true)
-
--- ---- a row of inner nodes
-
-pub children_of-requires : goal.children_of-requires
-children_of-requires m c =
-    let one : c.args.height ≡ suc (c.args.height - 1) = omega arith in
-    let nodes = subst (λ (k : ℕ). AreNodes c.args.shape c.args.pages.now k c.args.row.items) one c.requires.nodes in
-    subst (λ (row : List ℕ). Each (IsInnerIn c.args.shape c.args.pages.now) row) (sym c.deref-2.ensures.value) nodes.0
-
-pub add_rows-requires : goal.add_rows-requires
-add_rows-requires m c =
-    let one : c.args.height ≡ suc (c.args.height - 1) = omega arith in
-    let below : c.in_ok-below.below.items ≡ children_in c.args.shape c.args.pages.now c.args.row.items = c.in_ok-below.ensures ∙ ap (children_in c.args.shape c.args.pages.now) c.deref-2.ensures.value in
-    let nodes = subst (λ (k : ℕ). AreNodes c.args.shape c.args.pages.now k c.args.row.items) one c.requires.nodes in
-    let few = subst (λ (k : ℕ). length (entries_in_row c.args.shape c.args.pages.now (leaves_in c.args.shape c.args.pages.now k c.args.row.items)) < 2 ^ 64) one c.requires.few in (
-      omega arith,
-      (
-        subst (λ (row : List ℕ). AreNodes c.args.shape c.args.pages.now (c.args.height - 1) row) (sym below) nodes.1,
-        subst (λ (row : List ℕ). length (entries_in_row c.args.shape c.args.pages.now (leaves_in c.args.shape c.args.pages.now (c.args.height - 1) row)) < 2 ^ 64) (sym below) few,
-      ),
-    )
-
-pub returns-clause-leaves : goal.returns-clause-leaves
-returns-clause-leaves m c =
-    let one : c.args.height ≡ suc (c.args.height - 1) = omega arith in
-    let below : c.in_ok-below.below.items ≡ children_in c.args.shape c.args.pages.now c.args.row.items = c.in_ok-below.ensures ∙ ap (children_in c.args.shape c.args.pages.now) c.deref-2.ensures.value in
-    subst (λ (row : List ℕ). IfOk c.add_rows.result (λ leaves. leaves.items ≡ row))
-    (ap (leaves_in c.args.shape c.args.pages.now (c.args.height - 1)) below ∙ sym (ap (λ (k : ℕ). leaves_in c.args.shape c.args.pages.now k c.args.row.items) one)) c.add_rows.ensures.leaves
+pub returns-clause-added : goal.returns-clause-added
+returns-clause-added g m c = λ list has.
+    let shape = c.args.shape in
+    let row = c.args.row.items in
+    let old = c.args.levels.now.items in
+    let mid = c.push_level-2.new.levels.items in
+    let new = c.add_rows.new.levels.items in
+    let below : c.in_ok-below.below.items ≡ children_in shape list row =
+    c.in_ok-below.ensures.children list (c.add_rows.ensures.before list has) ∙ ap (children_in shape list) c.deref-2.ensures.value in
+    let level : c.inner_counts.result ≡ inner_level shape list row =
+    c.inner_counts.ensures list (c.deref-4.ensures.value ∙ below ∙ sym (ap (children_in shape list) c.deref-3.ensures.value)) ∙ ap (inner_level shape list) c.deref-3.ensures.value in
+    let is : mid ≡ old ++ inner_level shape list row ∷ [] = c.in_ok-push_level-2.ensures.added ∙ ap (λ (one : Level). old ++ one ∷ []) level in
+    let one : suc (c.args.height - 1) ≡ c.args.height = omega arith in
+    subst (λ (n : ℕ). AddsRows shape list n row old new c.add_rows.result) one
+    (adds_below shape list (c.args.height - 1) row old mid new c.add_rows.result is
+    (subst (λ (b : List ℕ). AddsRows shape list (c.args.height - 1) b mid new c.add_rows.result) below (c.add_rows.ensures.added list has)))

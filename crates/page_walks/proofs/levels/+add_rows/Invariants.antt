@@ -1,4 +1,4 @@
 use Rattle.page_walks.proofs.levels.+add_rows.Given as goal
 
 abbrev pub decreases-add_rows : goal.decreases-add_rows
-decreases-add_rows l = l.height
+decreases-add_rows g l = l.height

@@ -23,10 +23,10 @@ pub loop-i-preserved : goal.loop-i-preserved
 loop-i-preserved c =
     one_more c.args.below.now.items (children c.args.shape c.args.page.now) c.loop-i.below.items c.push_page.new.row.items c.loop-i.i c.child.result
     (omega (arith, many c.args.shape c.args.page.now _ c.count-i-end.ensures.value, c.loop-i-test.true))
-    c.child.ensures c.loop-i.invariant c.in_ok-push_page.ensures
+    c.child.ensures c.loop-i.invariant c.in_ok-push_page.ensures.added
 
-pub returns : goal.returns
-returns c =
+pub returns-clause-added : goal.returns-clause-added
+returns-clause-added c =
     c.loop-i.invariant
     ∙ ap (λ (l : List ℕ). c.args.below.now.items ++ l)
     (take_all c.loop-i.i (children c.args.shape c.args.page.now)

@@ -13,7 +13,7 @@ use Rattle.pages.proofs.RefusedLemmas.{err_refuses_more, handed_on, refused}
 use Rattle.page_walks.proofs.TreeAheadLemmas.{ahead_as, ahead_children, ahead_inner, ahead_leaf, ahead_there, ahead_unmarked, only_memory, row_end, row_first, row_rest, row_split}
 use Rattle.tree_search.specs.Tree.{Bound}
 use Rattle.pages.specs.declared.fault_place.FaultPlace.TheVariants.{Page}
-use Rattle.pages.specs.declared.page_fault.PageFault.TheVariants.{Node, Shared}
+use Rattle.pages.specs.declared.damage.Damage.TheVariants.{Node, Shared}
 use Rattle.pages.specs.Told.{TellsOfFault}
 use Rattle.pages.specs.Refused.{RefusesRightly}
 use Rattle.page_walks.specs.TreeFaults.{IsNodeFault, IsSomewhereBelow, MarksBelow, NodePlace, child_place, node_place}

@@ -1,6 +1,6 @@
 use Rattle.std.proofs.Common.{◌≡◌, ◌≤◌, length, refl, arith}
 use Rattle.pages.specs.declared.fault_place.FaultPlace.TheVariants.{Entry}
-use Rattle.pages.specs.declared.page_fault.PageFault.TheVariants.{Order}
+use Rattle.pages.specs.declared.damage.Damage.TheVariants.{Order}
 use Rattle.tree_node.specs.Inner.{separators}
 use Rattle.page_walks.specs.TreeFaults.{IsNodeFault, node_place}
 use Rattle.pages.proofs.ToldLemmas.{told}

@@ -10,7 +10,7 @@ use Rattle.page_walks.specs.TreeAhead.{TreeAhead, TreeUnmarked}
 use Rattle.page_walks.specs.TreeWalk.{reach_of}
 use Rattle.page_walks.proofs.TreeAheadLemmas.{whole_ahead, whole_count}
 use Rattle.pages.specs.declared.fault_place.FaultPlace.TheVariants.{Page}
-use Rattle.pages.specs.declared.page_fault.PageFault.TheVariants.{Count}
+use Rattle.pages.specs.declared.damage.Damage.TheVariants.{Index}
 use Rattle.page_walks.specs.TreeFaults.{IsSomewhereBelow, IsTreeFault, root_place}
 use Rattle.pages.proofs.ToldLemmas.{tells_on, told}
 use Rattle.page_walks.proofs.TreeFaultLemmas.{in_tree, other_count}
@@ -63,7 +63,7 @@ pub returns-then-not-have_entries-clause-told : goal.returns-then-not-have_entri
 returns-then-not-have_entries-clause-told g c = λ list has.
     let tree = c.args.tree.now in
     let leaves = c.walk_below.new.leaves.items in
-    told (IsTreeFault tree list c.args.reached.now) c.of_page.result Count (Page c.root-then-not-have_entries.result) c.of_page.ensures (
+    told (IsTreeFault tree list c.args.reached.now) c.of_page.result Index (Page c.root-then-not-have_entries.result) c.of_page.ensures (
       ap Page c.root-then-not-have_entries.ensures,
       other_count tree list c.least_in_root.result c.args.reached.now c.walk_below.new.reached (spots_in leaves)
           (λ some. (let is : c.least_in_root.result ≡ min c.levels.result 1 = c.least_in_root.ensures in let e : c.levels.result ≡ tree_levels tree = c.levels.ensures in omega arith))

@@ -1,8 +1,8 @@
 use Rattle.std.proofs.Common.{subst}
 use Rattle.page_store.specs.ShelfState.{unit_file}
 use Rattle.file_checker.specs.FirstLook.{IsLookAt}
-use Rattle.file_checker.proofs.UnitLemmas.{examines_on}
-use Rattle.file_checker.proofs.unit_check.examine_unit.Goals as goal
+use Rattle.file_checker.proofs.UnitLemmas.{checks_on}
+use Rattle.file_checker.proofs.unit_check.check_unit.Goals as goal
 
 pub returns-in-Ok-Refused : goal.returns-in-Ok-Refused
 returns-in-Ok-Refused g c = record {
@@ -14,5 +14,5 @@ returns-in-Ok-Refused g c = record {
 
 pub returns-in-Ok-Accepted : goal.returns-in-Ok-Accepted
 returns-in-Ok-Accepted g c =
-    examines_on g.S.Shelf.state g.S.Shelf.fault_count c.args.unit c.args.shelf c.look_at.new.shelf c.examine_pages.result.0 c.look_at.ensures.look.only c.look_at.ensures.look.cause.no_fewer
-    c.examine_pages.result.1 c.examine_pages.ensures
+    checks_on g.S.Shelf.state g.S.Shelf.fault_count c.args.unit c.args.shelf c.look_at.new.shelf c.check_unit_pages.result.0 c.look_at.ensures.look.only c.look_at.ensures.look.cause.no_fewer
+    c.check_unit_pages.result.1 c.check_unit_pages.ensures

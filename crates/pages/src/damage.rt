@@ -1,10 +1,10 @@
-//! What is wrong with a page.
+//! What is wrong in a file.
 
 use thiserror::Error;
 
-/// What a walk over the pages of a file found wrong.
+/// What is wrong with a page of a file, or with an entry or slot of one.
 #[derive(Clone, Copy, Debug, PartialEq, Eq, Error)]
-pub enum PageFault {
+pub enum Damage {
     #[error("a page is reached twice")]
     Shared,
     #[error("a node is not what its place requires")]
@@ -12,7 +12,9 @@ pub enum PageFault {
     #[error("tree keys are out of order")]
     Order,
     #[error("a chain of pages or slots is broken")]
-    Chain,
-    #[error("entries are not as many as they should be")]
-    Count,
+    Heap,
+    #[error("an index and the records do not agree")]
+    Index,
+    #[error("a page is reached by nothing")]
+    Lost,
 }

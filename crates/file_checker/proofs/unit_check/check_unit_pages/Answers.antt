@@ -6,10 +6,10 @@ use Rattle.page_store.specs.DeviceFile.{content}
 use Rattle.page_store.specs.ShelfState.{ShelfState, OnlyAnswers, unit_file}
 use Rattle.file_checker.specs.Asked.{first_pages_of}
 use Rattle.file_checker.specs.Sound.{IsRightOfPages}
-use Rattle.file_checker.specs.declared.finding.Finding.{Finding}
+use Rattle.file_checker.specs.declared.verdict.Verdict.{Verdict}
 use Rattle.std.specs.declared.alloc.AllocError.{AllocError}
 use Rattle.file_checker.proofs.UnitLemmas.{holds_all, pages_of_file}
-use Rattle.file_checker.proofs.unit_check.examine_pages.Goals as goal
+use Rattle.file_checker.proofs.unit_check.check_unit_pages.Goals as goal
 
 pub new-pages-requires-clause-holds : goal.new-pages-requires-clause-holds
 new-pages-requires-clause-holds g c = record {
@@ -17,8 +17,8 @@ new-pages-requires-clause-holds g c = record {
   file = λ honest. holds_all (unit_file (g.S.Shelf.state c.args.shelf) c.args.unit) c.args.header.now (c.requires.accepted.file honest);
 }
 
-pub examine_counted-found-requires-clause-counted : goal.examine_counted-found-requires-clause-counted
-examine_counted-found-requires-clause-counted g c = λ list has.
+pub check_counted-found-requires-clause-counted : goal.check_counted-found-requires-clause-counted
+check_counted-found-requires-clause-counted g c = λ list has.
     let asked = g.A.UnitAsked in
     ap (λ (l : List (List ℕ)). length l) has.2 ∙ length-chunks 4096 asked.count (content (unit_file asked.before asked.unit)) ∙ sym c.requires.asked.1
 
@@ -46,11 +46,11 @@ returns-in-Ok g c =
       right = λ honest.
           let list = first_pages_of asked.before asked.unit asked.count in
           let has = c.into_shelf-shelf.ensures.has c.if-has_failed.false honest in
-          let right : IfOk c.examine_counted-found.result (IsRightOfPages header list) = c.examine_counted-found.ensures list has in
-          let of_pages : IsRightOfPages header list c.in-Ok.finding = subst (λ (r : Result Finding AllocError). IfOk r (IsRightOfPages header list)) c.in-Ok.is right in
+          let right : IfOk c.check_counted-found.result (IsRightOfPages header list) = c.check_counted-found.ensures list has in
+          let of_pages : IsRightOfPages header list c.in-Ok.verdict = subst (λ (r : Result Verdict AllocError). IfOk r (IsRightOfPages header list)) c.in-Ok.is right in
           let same : list ≡ chunks 4096 header.pages (content file) = ap (λ (s : ShelfState). first_pages_of s asked.unit asked.count) (sym c.requires.before.0)
           ∙ ap (λ (u : ℕ). first_pages_of before u asked.count) (sym c.requires.asked.0) ∙ ap (λ (k : ℕ). first_pages_of before c.args.unit k) (sym c.requires.asked.1) in
-          subst (λ (l : List (List ℕ)). IsRightOfPages header l c.in-Ok.finding) same of_pages (content file) (pages_of_file file header (c.requires.accepted.file (only.honest honest)));
+          subst (λ (l : List (List ℕ)). IsRightOfPages header l c.in-Ok.verdict) same of_pages (content file) (pages_of_file file header (c.requires.accepted.file (only.honest honest)));
       only = only;
       no_fewer = subst (λ (n : ℕ). n ≤ g.S.Shelf.fault_count c.into_shelf-shelf.result.0) (sym c.requires.before.1) answered.no_fewer;
       fault = tt;

@@ -1,13 +1,18 @@
 use Rattle.std.proofs.Common.{rules, ◌≡◌, [], ◌∷◌, Some, refl, sym, subst}
 use Rattle.file_checker.specs.Bytes.{AreRead}
 use Rattle.file_checker.specs.Parts.{PagesStand}
-use Rattle.file_checker.specs.Ahead.{StopsRightly}
-use Rattle.file_checker.specs.Later.{StopsIn}
-use Rattle.file_checker.specs.Sound.{CheckGivesUp, HasPages}
+use Rattle.pages.specs.Refused.{RefusesRightly}
+use Rattle.pages.specs.Told.{TellsOfFault}
+use Rattle.file_checker.specs.declared.verdict.Reason.{Reason}
+use Rattle.pages.specs.declared.fault_place.FaultPlace.TheVariants.{File as TheFile}
+use Rattle.file_checker.specs.declared.verdict.Reason.TheVariants.{Short}
+use Rattle.file_checker.specs.declared.verdict.Verdict.TheVariants.{Unsound}
+use Rattle.file_checker.specs.Later.{IsMetIn}
+use Rattle.file_checker.specs.Sound.{CheckGivesUp, HasPages, HoldsAt}
 use Rattle.file_checker.specs.declared.verdict.CheckFault.TheVariants.{Memory}
 use Rattle.file_checker.proofs.ReadLemmas.{first_pages}
 use Rattle.file_checker.proofs.SoundLemmas.{no_verdict, first_is, first_read_alone, too_few, all_pages, is_sound, shown, not_short, gives_up, one_given, all_given, pages_read, unsound_by_pages}
-use Rattle.file_checker.proofs.check.examine_accepted.Goals as goal
+use Rattle.file_checker.proofs.check.check_accepted.Goals as goal
 
 pub returns-then-not-branch : goal.returns-then-not-branch
 returns-then-not-branch g c = record {
@@ -42,21 +47,22 @@ returns-in-Ok g c =
       fault = λ bytes came. tt;
     }
 
-pub returns-in-Err-Unsound : goal.returns-in-Err-Unsound
-returns-in-Err-Unsound g c =
+pub returns-in-Err-At : goal.returns-in-Err-At
+returns-in-Err-At g c =
     let items : c.push_page.new.pages.items ≡ c.args.first.now ∷ [] = search rules in
     let many = c.in_ok-read_pages.ensures.many c.if-not-branch.false in
-    let met = subst (StopsIn c.args.header.now c.deref.result.now) c.in-Err-Unsound.field-0-is c.in-Err-Unsound.ensures.stop in
-    let never = subst (StopsRightly (PagesStand c.args.header.now c.deref.result.now)) c.in-Err-Unsound.field-0-is c.in-Err-Unsound.ensures.refused in
+    let met = subst (TellsOfFault (IsMetIn c.args.header.now c.deref.result.now)) c.in-Err-At.field-0-is c.in-Err-At.ensures.stop in
+    let never = subst (RefusesRightly (PagesStand c.args.header.now c.deref.result.now)) c.in-Err-At.field-0-is c.in-Err-At.ensures.refused in
     record {
       right = λ bytes came.
           let alone = first_read_alone bytes c.args.first.now (g.R.Read.remaining c.args.reader.now) came c.told-first in
           let all = c.in_ok-read_pages.ensures.read c.if-not-branch.false (Some bytes) (subst (AreRead (Some bytes) (g.R.Read.remaining c.args.reader.now)) (sym items) alone) in
           let page = first_is bytes c.args.first.now (g.R.Read.remaining c.args.reader.now) came c.told-first in
           let pages = first_pages bytes (g.R.Read.remaining c.read_pages.new.reader) c.read_pages.new.pages.items all in (
-            shown bytes c.args.header.now c.deref.result.now c.in-Err-Unsound.reason c.in-Err-Unsound.place
+            subst (λ (r : Reason). HoldsAt bytes r c.in-Err-At.place) (sym c.of_damage.ensures)
+                (shown bytes c.args.header.now c.deref.result.now c.in-Err-At.damage c.in-Err-At.place
                 (subst (HasPages bytes c.args.header.now) (sym c.deref.ensures.value)
-                (all_pages bytes c.args.first.now c.args.header.now page c.requires c.read_pages.new.pages.items pages many)) met,
+                (all_pages bytes c.args.first.now c.args.header.now page c.requires c.read_pages.new.pages.items pages many)) met),
             unsound_by_pages bytes c.args.first.now c.args.header.now page c.requires c.read_pages.new.pages.items pages many
                 (λ stand. never (subst (PagesStand c.args.header.now) (sym c.deref.ensures.value) stand)),
           );
@@ -66,7 +72,7 @@ returns-in-Err-Unsound g c =
           record {
             whole = λ other. pages_read bytes c.args.first.now c.args.header.now (first_is bytes c.args.first.now (g.R.Read.remaining c.args.reader.now) came c.told-first) c.requires
                 (g.R.Read.remaining c.read_pages.new.reader) c.read_pages.new.pages.items all many;
-            short = λ is. absurd (not_short c.args.header.now c.deref.result.now c.in-Err-Unsound.reason c.in-Err-Unsound.place met is);
+            short = λ is. absurd (not_short c.in-Err-At.damage c.in-Err-At.place (subst (λ (r : Reason). Unsound r c.in-Err-At.place ≡ Unsound Short TheFile) c.of_damage.ensures is));
           };
       fault = λ bytes came. tt;
     }

@@ -1,10 +1,10 @@
 use Rattle.std.proofs.Common.{◌<◌, ◌*◌, ℕ, length, inr, refl, sym, subst, arith}
 use Rattle.std.proofs.lemmas.Result.{IfOk-weaker}
 use Rattle.open_file.specs.FirstPage.{IsFirstPage}
-use Rattle.file_checker.specs.Sound.{IsRightFinding, IsRightOfPages, IsShort}
+use Rattle.file_checker.specs.Sound.{IsRight, IsRightOfPages, IsShort}
 use Rattle.file_checker.proofs.SoundLemmas.{unsound_by_length, counted_is}
 use Rattle.file_checker.proofs.HeldLemmas.{has_counted}
-use Rattle.file_checker.proofs.held_bytes.examine_from.Goals as goal
+use Rattle.file_checker.proofs.held_bytes.check_from.Goals as goal
 
 pub returns-in-Some-front_of : goal.returns-in-Some-front_of
 returns-in-Some-front_of c =
@@ -12,8 +12,8 @@ returns-in-Some-front_of c =
     let header = c.in-Some.header in
     let counted = c.in-Some-front_of.counted.now in
     let is = subst (IsFirstPage header) (sym c.requires.first) c.in-Some.ensures.accepted in
-    IfOk-weaker c.examine_counted.result (IsRightOfPages header counted) (IsRightFinding bytes)
-    (λ finding right. right bytes (has_counted bytes header c.args.pages.now counted is c.requires.pages c.in-Some-front_of.ensures.some)) c.examine_counted.ensures
+    IfOk-weaker c.check_counted.result (IsRightOfPages header counted) (IsRight bytes)
+    (λ finding right. right bytes (has_counted bytes header c.args.pages.now counted is c.requires.pages c.in-Some-front_of.ensures.some)) c.check_counted.ensures
 
 pub returns-in-None-front_of : goal.returns-in-None-front_of
 returns-in-None-front_of c =
