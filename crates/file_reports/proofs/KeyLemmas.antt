@@ -12,7 +12,7 @@ use Rattle.open_file.specs.Stands.{Stands}
 use Rattle.indexed_file.specs.File.{File}
 use Rattle.page_walks.specs.Levels.{AreShown}
 use Rattle.file_reports.specs.declared.statistics.KeyStatistics.{KeyStatistics}
-use Rattle.file_reports.specs.Statistics.{AreKeyCounts, KeysCounted}
+use Rattle.file_reports.specs.Statistics.{AreKeyCounts, HasFileStanding, HasTreeStanding, KeysCounted}
 
 module _ {X : Type 0} where
   front_at : (xs : List X) (y : X) (i : ℕ) (d : X) → i < length xs → slice_index_or (xs ++ y ∷ []) i d ≡ slice_index_or xs i d
@@ -83,3 +83,31 @@ keys_more opened list n m keys new key index e before is inside at counts =
         let told : key ≡ other = sym (end_at keys key (j + 1) other (omega (arith, past, low, e, old))) ∙ sym has in
         subst (AreKeyCounts index'.tree index'.width map _ _ (stands.parts.alternates_stand j index' within at').tree) told
         ((subst (λ (i : AltIndex). CountsTree i.tree i.width list key) same counts) map _ _ (stands.parts.alternates_stand j index' within at').tree shown)
+
+-- the tree of each key stands in a file that stands
+pub prime_standing : (opened : OpenFile) (list : List (List ℕ)) → HasFileStanding opened list → HasTreeStanding (prime_index_of opened).tree list
+prime_standing opened list known =
+    let tree = known.stands.parts.prime_stands.tree in
+    record {
+      pages = known.pages;
+      entries = _;
+      own = _;
+      stands = tree;
+      shown = known.shown;
+      few = known.few 1;
+      counted = (let a = tree.count in let b = known.prime_counted in omega (arith, a, b));
+    }
+
+pub alternate_standing : (opened : OpenFile) (list : List (List ℕ)) → HasFileStanding opened list → (j : ℕ) (index : AltIndex) → j < length (alternates_of opened)
+    → index ≡ slice_index_or (alternates_of opened) j index → HasTreeStanding index.tree list
+alternate_standing opened list known j index within at =
+    let tree = (known.stands.parts.alternates_stand j index within at).tree in
+    record {
+      pages = known.pages;
+      entries = _;
+      own = _;
+      stands = tree;
+      shown = known.shown;
+      few = known.few (j + 2);
+      counted = (let a = tree.count in let b = known.counted j index within at in omega (arith, a, b));
+    }

@@ -6,5 +6,6 @@ pub mod FileLemmas
 pub mod KeyLemmas
 pub mod WholeLemmas
 pub mod BytesLemmas
+pub mod ListedLemmas
 pub mod FirstLemmas
 pub mod DifferencesLemmas

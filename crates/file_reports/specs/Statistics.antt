@@ -1,6 +1,8 @@
 -- What is counted of a file whose pages stand for it.
 use Rattle.std.specs.Prelude.{◌≡◌, ℕ, ◌+◌, ◌*◌, ◌<◌, ◌^◌, List, [], ◌∷◌, length, map, slice_index_or, IsSome}
 use Rattle.std.specs.Prelude.{Result, IfOk}
+use Rattle.std.specs.Global.{Vec}
+use Rattle.pages.specs.declared.walk_fault.WalkFault.{WalkFault}
 use Rattle.record_layout.specs.Schema.{Schema, value_of}
 use Rattle.indexed_file.specs.File.{Row, File}
 use Rattle.pages.specs.PageMap.{PageMap}
@@ -101,6 +103,11 @@ pub record KeysCounted (opened : OpenFile) (list : List (List ℕ)) (count : ℕ
   pub many : length keys ≡ count + 1
   pub are : (pages : PageMap) (file : File) (stands : Stands opened pages file) → AreShown pages list
       → AreKeyStatistics opened pages file stands count keys
+
+-- where the file stands in the pages of the list, so all its keys are told of
+abbrev pub CountsEachKey : OpenFile → Result (Vec KeyStatistics) WalkFault → List (List ℕ) → Type 0
+CountsEachKey opened result list = HasFileStanding opened list
+    → IfOk result (λ keys. KeysCounted opened list (length (alternates_of opened)) keys.items)
 
 -- the values of key k that these rows have
 abbrev pub values_in : Schema → ℕ → List Row → List (List ℕ)

@@ -5,10 +5,11 @@
 //! it is for a check to find. The schema may also be held against that of a deck: `compare_schema`
 //! writes a line for each difference, and none exactly where OPEN would find the two the same.
 //!
-//! `list_statistics` checks the bytes of a file, and then writes how many pages there are of each
-//! kind, how many slots the heap has, how full the levels of the trees are, and how many records have
-//! one value of a key at most. What the numbers count is the file that the bytes stand for. Of a file
-//! that is not sound nothing is written, and the reason of the check is answered, and its place.
+//! `list_statistics` checks the file of a unit of a shelf, and then writes how many pages there are of
+//! each kind, how many slots the heap has, how full the levels of the trees are, and how many records
+//! have one value of a key at most. Its pages are read when they are wanted. What the numbers count is
+//! the file that its bytes stand for. Of a file that is not sound nothing is written, and the reason of
+//! the check is answered, and its place.
 //!
 //! Read `specs/SchemaLines.antt`, then `schema_listing`; `specs/Differences.antt`, then `comparing`;
 //! `specs/Statistics.antt` and `specs/StatisticsLines.antt`, then `statistics_listing`.
