@@ -12,6 +12,7 @@ use Rattle.shelf_run.proofs.FilesLemmas.{world_at_first, shown_truly, named_is, 
 use Rattle.file_checker.specs.Sound.{IsSound, IsRight}
 use Rattle.file_checker.specs.declared.verdict.Reason.{Reason}
 use Rattle.file_checker.specs.declared.verdict.Verdict.{Verdict}
+use Rattle.pages.specs.declared.fault_place.FaultPlace.{FaultPlace}
 use Rattle.file_checker.specs.declared.verdict.Verdict.TheVariants.{Unsound}
 use Rattle.record_text.specs.declared.form.Form.{Form}
 use Rattle.record_listing.specs.declared.asked.Asked.{Asked}
@@ -71,11 +72,11 @@ meant form shelf held name bytes records pages sound none empty same unnamed ask
     (subst (λ (n : Named). EndsNamed form asked n before behind result) stands_for (ends shown))
 
 -- a check that tells this reason is right of the bytes
-pub refused : {E : Type 0} (bytes : List ℕ) (reason : Reason) (verdict : Verdict) (result : Result Verdict E)
-    → IfOk result (IsRight bytes) → result ≡ Ok verdict → verdict ≡ Unsound reason
-    → IsRight bytes (Unsound reason)
-refused bytes reason verdict result right is told =
-    subst (IsRight bytes) told (subst (λ result. IfOk result (IsRight bytes)) is right)
+pub refused : {E : Type 0} (bytes : List ℕ) (reason : Reason) (place : FaultPlace) (verdict : Verdict) (result : Result Verdict E)
+    → IfOk result (IsRight bytes) → result ≡ Ok verdict → verdict ≡ Unsound reason place
+    → (place : FaultPlace) × IsRight bytes (Unsound reason place)
+refused bytes reason place verdict result right is told =
+    (place, subst (IsRight bytes) told (subst (λ result. IfOk result (IsRight bytes)) is right))
 
 -- a library to which no name is attached shows of the empty name what the file of the shelf stands for
 module _ (shelf : ShelfState) (held : List Held) (schema : Schema) (file : File) (stands : Represents (shelf.file []).seen (Closed schema file))

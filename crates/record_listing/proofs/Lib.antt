@@ -10,3 +10,4 @@ pub mod ListingLemmas
 pub mod FileLemmas
 pub mod FileListLemmas
 pub mod AsideLemmas
+mod CheckedLemmas

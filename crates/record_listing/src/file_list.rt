@@ -72,7 +72,7 @@ pub fn list_file_as<W: Write>(
 {
     match check_bytes(alloc, bytes.as_slice()) {
         Ok(Verdict::Sound { .. }) => list_sound(alloc, bytes, asked, form, out),
-        Ok(Verdict::Unsound(reason)) => Ok(FileList::Unsound(reason)),
+        Ok(Verdict::Unsound(reason, _)) => Ok(FileList::Unsound(reason)),
         Err(_) => Err(ListFault::Memory),
     }
 }

@@ -17,6 +17,7 @@
 #![tactic(auto)]
 
 mod asked;
+mod checked_list;
 mod condition;
 mod end;
 mod file_bytes;
@@ -28,6 +29,7 @@ mod rows;
 mod shelf_list;
 
 pub use asked::Asked;
+pub use checked_list::list_checked_shelf;
 pub use condition::{Condition, Operator};
 pub use end::{ListEnd, ListFault};
 pub use file_list::{FileList, list_file, list_file_as, list_sound};

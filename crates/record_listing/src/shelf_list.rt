@@ -1,5 +1,5 @@
 //! The list of the file of a shelf.
-ghost use Rattle.std.specs.Prelude.{◌≡◌, []};
+ghost use Rattle.std.specs.Prelude.{◌≡◌, [], IsTrue};
 ghost use Rattle.record_listing.specs.FileList.{ListsTruly};
 
 use crate::asked::Asked;
@@ -34,6 +34,7 @@ pub fn list_shelf<S: Shelf, W: Write>(
     requires names { (S.state shelf).names ≡ [] }
     ensures ends { ListsTruly (S.state shelf) (S.state result.0) form.now asked (W.contents out.old)
         (W.contents out.new) result.1 }
+    ensures honest { IsTrue (S.state result.0).is_honest → IsTrue (S.state shelf).is_honest }
     ensures memory { result.1 ≡ Err ListFault.Memory → W.contents out.new ≡ W.contents out.old }
 {
     let frames = NonZeroUsize::new(FRAMES).unwrap_or(NonZeroUsize::MIN);

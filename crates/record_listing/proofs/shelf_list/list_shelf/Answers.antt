@@ -15,3 +15,10 @@ returns-clause-ends g c =
     (ap (λ shelf. (state shelf).names) c.new-library.ensures.shelf ∙ c.requires.names) c.new-library.ensures.units (search rules)
     c.args.asked before behind c.list_records-end.result
     (c.list_records-end.ensures.ends (subst (λ shelf. IsTrue (state shelf).is_honest) c.into_shelf.ensures honest)))
+
+pub returns-clause-honest : goal.returns-clause-honest
+returns-clause-honest g c =
+    let state = g.S.Shelf.state in
+    λ honest.
+    subst (λ shelf. IsTrue (state shelf).is_honest) c.new-library.ensures.shelf
+    (c.list_records-end.ensures.keeps.honest (subst (λ shelf. IsTrue (state shelf).is_honest) c.into_shelf.ensures honest))
