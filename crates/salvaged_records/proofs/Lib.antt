@@ -1,7 +1,11 @@
 pub mod ValueLemmas
-pub mod SlotLemmas
+pub mod FilterLemmas
+pub mod VisitLemmas
+pub mod SiftLemmas
+pub mod OnceLemmas
+pub mod NoteLemmas
 pub mod EntryLemmas
 pub mod PickLemmas
-pub mod OnceLemmas
 pub mod LineLemmas
+pub mod WriteLemmas
 pub mod SalvageLemmas

@@ -33,7 +33,7 @@ module _ (prime : KeyPart) (value : List ℕ) where
   fewer_step true m n p all picked is total less = omega (arith, is, total, less)
   fewer_step false m n p all picked is total less = omega (arith, is, total, less)
 
-  fewer : (p : FoundSlot → Bool) (slots : List FoundSlot) → times (prime_values prime (filter p slots)) value ≤ times (prime_values prime slots) value
+  pub fewer : (p : FoundSlot → Bool) (slots : List FoundSlot) → times (prime_values prime (filter p slots)) value ≤ times (prime_values prime slots) value
   fewer p [] = omega arith
   fewer p (slot ∷ slots) =
       fewer_step (p slot) (cond (bytes_eq (value_in prime slot) value) 1 0) (times (prime_values prime slots) value) (times (prime_values prime (filter p slots)) value)
@@ -48,13 +48,37 @@ module _ (prime : KeyPart) (value : List ℕ) where
   within_step false true sure p q picked others is are so less = omega (arith, is, are, less)
   within_step false false sure p q picked others is are so less = omega (arith, is, are, less)
 
-  within : (p q : FoundSlot → Bool) → ((slot : FoundSlot) → bytes_eq (value_in prime slot) value ≡ true → p slot ≡ true → q slot ≡ true) → (slots : List FoundSlot)
+  pub within : (p q : FoundSlot → Bool) → ((slot : FoundSlot) → bytes_eq (value_in prime slot) value ≡ true → p slot ≡ true → q slot ≡ true) → (slots : List FoundSlot)
       → times (prime_values prime (filter p slots)) value ≤ times (prime_values prime (filter q slots)) value
   within p q so [] = omega arith
   within p q so (slot ∷ slots) =
       within_step (p slot) (q slot) (bytes_eq (value_in prime slot) value) (times (prime_values prime (filter p slots)) value) (times (prime_values prime (filter q slots)) value)
       (times (prime_values prime (filter p (slot ∷ slots))) value) (times (prime_values prime (filter q (slot ∷ slots))) value)
       (picked_more p slot slots (p slot) refl) (picked_more q slot slots (q slot) refl) (so slot) (within p q so slots)
+
+  -- as many of one kind as of another, where those with the value are of both or of neither
+  both_step : (few many : ℕ) → few ≤ many → many ≤ few → few ≡ many
+  both_step few many less more = omega (arith, less, more)
+
+  pub agree : (p q : FoundSlot → Bool) → ((slot : FoundSlot) → bytes_eq (value_in prime slot) value ≡ true → p slot ≡ q slot) → (slots : List FoundSlot)
+      → times (prime_values prime (filter p slots)) value ≡ times (prime_values prime (filter q slots)) value
+  agree p q so slots =
+      both_step (times (prime_values prime (filter p slots)) value) (times (prime_values prime (filter q slots)) value)
+      (within p q (λ slot same is. sym (so slot same) ∙ is) slots) (within q p (λ slot same is. so slot same ∙ is) slots)
+
+  -- as many as there are, where those with the value are picked
+  all_step : (b sure : Bool) (n p all picked : ℕ) → picked ≡ cond b (cond sure 1 0 + p) p → all ≡ cond sure 1 0 + n → (sure ≡ true → b ≡ true) → p ≡ n → picked ≡ all
+  all_step true sure n p all picked is total so same = omega (arith, is, total, same)
+  all_step false true n p all picked is total so same = absurd (false≢true (so refl))
+  all_step false false n p all picked is total so same = omega (arith, is, total, same)
+
+  pub all_picked : (p : FoundSlot → Bool) → ((slot : FoundSlot) → bytes_eq (value_in prime slot) value ≡ true → p slot ≡ true) → (slots : List FoundSlot)
+      → times (prime_values prime (filter p slots)) value ≡ times (prime_values prime slots) value
+  all_picked p so [] = refl
+  all_picked p so (slot ∷ slots) =
+      all_step (p slot) (bytes_eq (value_in prime slot) value) (times (prime_values prime slots) value) (times (prime_values prime (filter p slots)) value)
+      (times (prime_values prime (slot ∷ slots)) value) (times (prime_values prime (filter p (slot ∷ slots))) value)
+      (picked_more p slot slots (p slot) refl) (one_more slot slots) (so slot) (all_picked p so slots)
 
   -- none, where none with the value is picked
   none_step : (b sure : Bool) (p picked : ℕ) → picked ≡ cond b (cond sure 1 0 + p) p → (sure ≡ true → b ≡ false) → p ≡ 0 → picked ≡ 0

@@ -5,9 +5,8 @@ use Rattle.record_layout.specs.declared.schema.KeyPart.{KeyPart}
 use Rattle.record_layout.specs.Schema.{part_of, Schema, key_at}
 use Rattle.record_heap.specs.declared.shape.SlotShape.{SlotShape}
 use Rattle.tree_node.specs.declared.shape.NodeShape.{NodeShape}
-use Rattle.salvaged_records.specs.declared.sorting.SortedOut.{SortedOut}
 use Rattle.salvaged_records.specs.Leaves.{leaf_entries_in, IsPrimeShape}
-use Rattle.salvaged_records.specs.Slots.{FoundSlot, found_slot, used_slots_in}
+use Rattle.salvaged_records.specs.Slots.{FoundSlot, used_slots_in}
 use Rattle.salvaged_records.specs.Values.{comes, comes_twice}
 
 -- the value of a part of the record in a slot
@@ -46,14 +45,14 @@ kept_slots prime entries slots = filter (is_slot_kept prime entries slots) slots
 abbrev pub told_slots : KeyPart → List FoundSlot → List FoundSlot
 told_slots prime slots = filter (is_doubled prime slots) slots
 
--- the slots in use of pages of this schema were told apart, by the entries in all leaves
-pub record AreSortedOut (schema : Schema) (shape : SlotShape) (pages : List (List ℕ)) (sorted : SortedOut)
-    : Type 0 where
+-- the slots in use of pages of this schema were told apart, by the entries in all leaves: these are
+-- kept, and these are told
+pub record AreSortedOut (schema : Schema) (shape : SlotShape) (pages : List (List ℕ))
+    (kept told : List FoundSlot) : Type 0 where
   pub nodes : NodeShape
   pub is_prime : IsPrimeShape (key_at schema 0) nodes
-  pub kept : map found_slot sorted.kept.items
-      ≡ kept_slots (key_at schema 0) (leaf_entries_in nodes pages) (used_slots_in shape pages)
-  pub told : map found_slot sorted.told.items ≡ told_slots (key_at schema 0) (used_slots_in shape pages)
+  pub kept_is : kept ≡ kept_slots (key_at schema 0) (leaf_entries_in nodes pages) (used_slots_in shape pages)
+  pub told_is : told ≡ told_slots (key_at schema 0) (used_slots_in shape pages)
 
 -- no two of the slots that are kept have one prime value
 abbrev pub EachValueOnce : Type 0

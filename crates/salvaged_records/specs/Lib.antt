@@ -1,9 +1,14 @@
 pub mod Slots
 pub mod Values
+pub mod Filter
 pub mod Leaves
 pub mod Doubt
+pub mod Sifting
 pub mod Telling
+pub mod Picking
+pub mod TakingLaws
 pub mod Shapes
 pub mod Leads
 pub mod Lines
+pub mod Writing
 pub mod Salvaged

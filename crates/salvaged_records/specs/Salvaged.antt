@@ -1,8 +1,9 @@
 -- What a salvage of the bytes of a file promises. All of this is ours.
-use Rattle.std.specs.Prelude.{◌≡◌, ◌⊎◌, ◌<◌, ℕ, ◌-◌, ◌^◌, Bool, true, false, List, [], length, map, slice_set}
-use Rattle.std.specs.Prelude.{Option, Some, None, Result, Ok, Err, ⊤}
+use Rattle.std.specs.Prelude.{◌≡◌, ◌⊎◌, ◌<◌, ℕ, ◌-◌, ◌^◌, Bool, true, false, List, [], length, filter, slice_set}
+use Rattle.std.specs.Prelude.{Option, Some, None, Result, Ok, Err, IfOk, ⊤}
 use Rattle.page_store.specs.DeviceFile.{page_of_bytes}
 use Rattle.record_heap.specs.declared.shape.SlotShape.{SlotShape}
+use Rattle.pages.specs.declared.fault_place.FaultPlace.{FaultPlace}
 use Rattle.record_layout.specs.Schema.{Schema}
 use Rattle.open_file.specs.declared.first_page.Header.{Header}
 use Rattle.open_file.specs.FirstPage.{IsFirstPage}
@@ -16,15 +17,17 @@ use Rattle.record_listing.specs.FileList.{EndsWithIn}
 use Rattle.record_listing.specs.declared.file_list.FileList.TheVariants.{Listed}
 use Rattle.record_listing.specs.declared.asked.Asked.{Asked}
 use Rattle.record_listing.specs.declared.end.ListFault.{ListFault}
-use Rattle.salvaged_records.specs.declared.sorting.SortedOut.{SortedOut}
+use Rattle.salvaged_records.specs.declared.doubts.Doubts.{Doubts}
 use Rattle.salvaged_records.specs.Doubt.{AreSortedOut}
-use Rattle.salvaged_records.specs.Slots.{found_slot}
+use Rattle.salvaged_records.specs.Slots.{FoundSlot, used_slots_in}
 use Rattle.salvaged_records.specs.Lines.{salvaged_list}
 use Rattle.salvaged_records.specs.Shapes.{IsShapeOf}
+use Rattle.salvaged_records.specs.Telling.{is_kept_by, is_told_by}
+use Rattle.salvaged_records.specs.Writing.{WritesSlotList}
 use Rattle.salvaged_records.specs.declared.lead.Lead.{Lead}
 use Rattle.salvaged_records.specs.declared.lead.Lead.TheVariants.{Bare, Place, Doubt}
 use Rattle.salvaged_records.specs.declared.salvaging.Salvage.{Salvage}
-use Rattle.salvaged_records.specs.declared.salvaging.SalvageForm.{SalvageForm}
+use Rattle.salvaged_records.specs.declared.slot_salvage.SalvageForm.{SalvageForm}
 use Rattle.salvaged_records.specs.declared.salvaging.Salvage.TheVariants.{All, Slots, Unsound}
 
 -- the bytes with the gate closed: byte 0 is 'C', if there is one
@@ -56,9 +59,9 @@ outputs before behind told_before told_behind = record {
 }
 
 -- the same of two writers, before a call and after it: that of lines, and that to which slots are told
-abbrev pub both_outputs : {W E : Type 0} → (listed : W → Option (List ℕ)) → (told : E → Option (List ℕ))
+abbrev pub writings : {W E : Type 0} → (listed : W → Option (List ℕ)) → (told : E → Option (List ℕ))
     → (old new : W × E) → Outputs
-both_outputs listed told old new = outputs (listed old.0) (listed new.0) (told old.1) (told new.1)
+writings listed told old new = outputs (listed old.0) (listed new.0) (told old.1) (told new.1)
 
 -- the records of the file that the bytes stand for were written in a form, in the order of the prime
 -- key, and nothing was told
@@ -83,28 +86,54 @@ lead_by true = Place
 lead_by false = Bare
 
 -- the slots that are told were told, a line for each, and the others were listed
-pub record WritesSorted (sorted : SortedOut) (form : Form) (places : Bool) (o : Outputs) : Type 0 where
-  pub told : Appends o.told_before o.told_behind (salvaged_list Doubt Text (map found_slot sorted.told.items))
-  pub listed : Appends o.before o.behind (salvaged_list (lead_by places) form (map found_slot sorted.kept.items))
+pub record WritesSorted (kept told : List FoundSlot) (form : Form) (places : Bool) (o : Outputs) : Type 0 where
+  pub tells : Appends o.told_before o.told_behind (salvaged_list Doubt Text told)
+  pub lists : Appends o.before o.behind (salvaged_list (lead_by places) form kept)
 
-abbrev pub ListsSorted : SortedOut → SalvageForm → Outputs → Type 0
-ListsSorted sorted asked o = WritesSorted sorted asked.form.now asked.places o
-
--- The slots in use of all whole pages, as they are in a file of this schema, were sorted out; those
--- whose prime value others have were told, page by page, and so many they are; and so many were listed,
--- page by page: those whose value no other has, and the one of several to which the entries of the prime
--- key lead, if they lead to one.
-pub record WritesSlots (schema : Schema) (bytes : List ℕ) (form : Form) (places : Bool) (o : Outputs)
+-- The slots in use of these pages, as they are in a file of this schema, were sorted out; those whose
+-- prime value others have were told, page by page, and so many they are; and so many were listed, page by
+-- page: those whose value no other has, and the one of several to which the entries of the prime key
+-- lead, if they lead to one.
+pub record WritesSlotsOf (schema : Schema) (pages : List (List ℕ)) (form : Form) (places : Bool) (o : Outputs)
     (listed told : ℕ) : Type 0 where
   pub shape : SlotShape
   pub shape_is : IsShapeOf schema shape
+  pub kept : List FoundSlot
+  pub doubted : List FoundSlot
+  pub sorted : AreSortedOut schema shape pages kept doubted
+  pub written : WritesSorted kept doubted form places o
+  pub listed_is : listed ≡ length kept
+  pub told_is : told ≡ length doubted
+
+-- those of all whole pages of a file were
+pub record WritesSlots (schema : Schema) (bytes : List ℕ) (form : Form) (places : Bool) (o : Outputs)
+    (listed told : ℕ) : Type 0 where
   pub pages : List (List ℕ)
   pub all_pages : AreAllPages bytes pages
-  pub sorted : SortedOut
-  pub sorted_is : AreSortedOut schema shape pages sorted
-  pub written : WritesSorted sorted form places o
-  pub listed_is : listed ≡ length sorted.kept.items
-  pub told_is : told ≡ length sorted.told.items
+  pub slots : WritesSlotsOf schema pages form places o listed told
+
+-- so many were listed, and so many told, of pages
+abbrev pub ListsSlotsOf : Schema → List (List ℕ) → SalvageForm → Outputs → (counts : ℕ × ℕ) → Type 0
+ListsSlotsOf schema pages asked o counts =
+    WritesSlotsOf schema pages asked.form.now asked.places o counts.0 counts.1
+
+-- the slots of these that are told by what tells slots apart were told, so many, and those that are kept
+-- were listed, so many
+pub record ListsBoth (doubts : Doubts) (slots : List FoundSlot) (asked : SalvageForm) (o : Outputs)
+    (counts : ℕ × ℕ) : Type 0 where
+  pub tells : WritesSlotList Doubt Text (filter (is_told_by doubts) slots) o.told_before o.told_behind counts.1
+  pub lists : WritesSlotList (lead_by asked.places) asked.form.now (filter (is_kept_by doubts) slots)
+      o.before o.behind counts.0
+
+-- where a call did not fail, so of the slots in use of these pages, by what tells them apart
+abbrev pub Sorts : {E : Type 0} → Doubts → SlotShape → SalvageForm → Outputs → Result (ℕ × ℕ) E
+    → (pages : List (List ℕ)) → Type 0
+Sorts doubts shape asked o result pages = IfOk result (ListsBoth doubts (used_slots_in shape pages) asked o)
+
+-- or by the pages of a file of a schema
+abbrev pub GivesSlotsOf : {E : Type 0} → Schema → SalvageForm → Outputs → Result (ℕ × ℕ) E
+    → (pages : List (List ℕ)) → Type 0
+GivesSlotsOf schema asked o result pages = IfOk result (ListsSlotsOf schema pages asked o)
 
 -- so many were listed, and so many told
 abbrev pub ListsSlots : Schema → List ℕ → SalvageForm → Outputs → (counts : ℕ × ℕ) → Type 0
@@ -139,8 +168,8 @@ EndsWith deck bytes form places o (All records) =
 EndsWith deck bytes form places o (Slots listed told) = (IsUnsound bytes ⊎ (places ≡ true))
     × WritesSlotsFor deck bytes form places o listed told
 EndsWith deck bytes form places o (Unsound reason) =
-    IsRight bytes (IsRefused reason) × HasNoHeader bytes × (deck ≡ None) × (o.behind ≡ o.before)
-    × (o.told_behind ≡ o.told_before)
+    ((place : FaultPlace) × IsRight bytes (IsRefused reason place)) × HasNoHeader bytes × (deck ≡ None)
+    × (o.behind ≡ o.before) × (o.told_behind ≡ o.told_before)
 
 abbrev pub Salvages : Option Schema → List ℕ → SalvageForm → Outputs → Salvage → Type 0
 Salvages deck bytes asked o end = EndsWith deck bytes asked.form.now asked.places o end

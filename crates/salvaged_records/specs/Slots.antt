@@ -1,5 +1,5 @@
 -- The slots in use of pages, whether or not they are those of a sound file. All of this is ours.
-use Rattle.std.specs.Prelude.{◌≡◌, ℕ, zero, suc, Bool, List, [], ◌∷◌, ◌++◌, length, map, take, nat_eq}
+use Rattle.std.specs.Prelude.{ℕ, zero, suc, Bool, List, [], ◌∷◌, ◌++◌, length, take, nat_eq}
 use Rattle.std.specs.Prelude.{slice_index_or, Option, Some, None, if◌then◌else◌}
 use Rattle.std.specs.Cmp.Lexicographic.{pointwise}
 use Rattle.open_file.specs.FirstPageReading.{number_in}
@@ -48,7 +48,3 @@ slots_before shape pages (suc n) =
 -- those of all pages
 abbrev pub used_slots_in : SlotShape → List (List ℕ) → List FoundSlot
 used_slots_in shape pages = slots_before shape pages (length pages)
-
--- slots that are these were added
-abbrev pub AddsSlots : (old new : List UsedSlot) → List FoundSlot → Type 0
-AddsSlots old new more = map found_slot new ≡ map found_slot old ++ more

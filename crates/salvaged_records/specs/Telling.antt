@@ -6,10 +6,10 @@ use Rattle.salvaged_records.specs.declared.doubts.Doubts.{Doubts}
 use Rattle.salvaged_records.specs.Doubt.{entry_leading_to, is_doubled, is_slot_kept, value_in}
 use Rattle.salvaged_records.specs.Slots.{FoundSlot}
 use Rattle.salvaged_records.specs.Values.{is_in_set}
-use denote.Ref.{Bor}
+use Rattle.std.specs.Global.{Vec}
 
 -- an entry of a set leads to a slot
-abbrev pub is_led_by : KeyPart → BTreeSet (Bor (List ℕ)) → FoundSlot → Bool
+abbrev pub is_led_by : KeyPart → BTreeSet (Vec ℕ) → FoundSlot → Bool
 is_led_by prime entries slot = nat_lt slot.page (2 ^ 32) && is_in_set entries (entry_leading_to prime slot)
 
 -- the value of a slot is one that several have

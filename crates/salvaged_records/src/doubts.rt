@@ -5,12 +5,13 @@ use crate::values::ValuesInOrder;
 use record_layout::KeyPart;
 
 /// What tells slots apart: the part of a record that is the prime key, the values that several slots
-/// have, the entries of the prime key, and the values of which entries lead to several slots.
+/// have, the entries of the prime key that have these values, and the values of which entries lead to
+/// several slots.
 #[derive(Drop)]
-pub struct Doubts<'a> {
+pub struct Doubts {
     pub prime: KeyPart,
-    pub doubled: ValuesInOrder<'a>,
-    pub entries: ValuesInOrder<'a>,
-    pub led_twice: ValuesInOrder<'a>,
+    pub doubled: ValuesInOrder,
+    pub entries: ValuesInOrder,
+    pub led_twice: ValuesInOrder,
     ghost short: { prime.length ≤ 250 },
 }

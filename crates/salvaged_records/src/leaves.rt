@@ -1,12 +1,15 @@
-//! The entries in the leaves of the prime key.
-ghost use Rattle.std.specs.Prelude.{◌≡◌, IfOk, OnOk};
+//! The entries in the leaves of the prime key that have one of some values.
+ghost use Rattle.std.specs.Prelude.{◌≡◌, ◌≤◌, ◌^◌, ◌∷◌, [], length, filter, IfOk, OnOk};
+ghost use Rattle.pages.specs.Source.{KeepsItsPages, OfItsPages};
 ghost use Rattle.tree_node.specs.LeafView.{view_entries};
 ghost use Rattle.record_layout.specs.Schema.{IsKey};
 ghost use Rattle.salvaged_records.specs.Leaves.{leaf_entries_in, entries_of_page, is_leaf_page, IsPrimeShape};
+ghost use Rattle.salvaged_records.specs.Leaves.{is_entry_of};
 ghost use Rattle.salvaged_records.specs.Values.{AddsValues, HasValues};
 
-use crate::values::{ValuesInOrder, add_value, no_values};
-use pages::PAGE_SIZE;
+use crate::values::{ValuesInOrder, add_value, has_value, no_values};
+use crate::visiting::MOST_PAGES;
+use pages::{PAGE_SIZE, PageSource};
 use record_layout::KeyPart;
 use std::alloc::{AllocError, Global};
 use tree_node::{LeafView, NodeShape, is_leaf};
@@ -33,43 +36,80 @@ fn is_leaf_page(page: &[u8; PAGE_SIZE], shape: NodeShape) -> bool
     is_leaf(page, shape)
 }
 
-#[tactic(auto, using(crate::proofs::EntryLemmas::adds_none))]
-/// Adds the entries of a leaf.
-fn add_entries<'a>(entries: &mut ValuesInOrder<'a>, leaf: LeafView<'a>) -> Result<(), AllocError>
-    ensures { OnOk result (AddsValues entries.old entries.new (view_entries leaf.entry)) }
+/// Whether an entry has one of these values.
+fn is_entry_of(values: &ValuesInOrder, entry: &[u8]) -> bool
+    ensures { result ≡ is_entry_of values.now entry.now }
 {
-    for i in 0..leaf.count() {
-        add_value(entries, leaf.entry(i))?;
+    has_value(values, &entry[..entry.len().saturating_sub(6)])
+}
+
+/// Adds an entry, where it has one of these values.
+fn add_entry(
+    alloc: Global,
+    entries: &mut ValuesInOrder,
+    values: &ValuesInOrder,
+    entry: &[u8],
+) -> Result<(), AllocError>
+    ensures { OnOk result (AddsValues entries.old entries.new (filter (is_entry_of values.now) (entry.now ∷ []))) }
+{
+    if is_entry_of(values, entry) {
+        return add_value(alloc, entries, entry);
     }
     Ok(())
 }
 
 #[tactic(auto, using(crate::proofs::EntryLemmas::adds_none))]
-/// Adds the entries of a page, if it is a leaf.
-fn add_page<'a>(
-    entries: &mut ValuesInOrder<'a>,
-    page: &'a [u8; PAGE_SIZE],
+/// Adds those entries of a leaf that have one of these values.
+fn add_entries(
+    alloc: Global,
+    entries: &mut ValuesInOrder,
+    values: &ValuesInOrder,
+    leaf: LeafView<'_>,
+) -> Result<(), AllocError>
+    ensures { OnOk result (AddsValues entries.old entries.new
+        (filter (is_entry_of values.now) (view_entries leaf.entry))) }
+{
+    for i in 0..leaf.count() {
+        add_entry(alloc, entries, values, leaf.entry(i))?;
+    }
+    Ok(())
+}
+
+/// Adds those entries of a page that have one of these values, if it is a leaf.
+fn add_page(
+    alloc: Global,
+    entries: &mut ValuesInOrder,
+    values: &ValuesInOrder,
+    page: &[u8; PAGE_SIZE],
     shape: NodeShape,
 ) -> Result<(), AllocError>
-    ensures { OnOk result (AddsValues entries.old entries.new (entries_of_page shape page.now)) }
+    ensures { OnOk result (AddsValues entries.old entries.new
+        (filter (is_entry_of values.now) (entries_of_page shape page.now))) }
 {
     if !is_leaf_page(page, shape) {
         return Ok(());
     }
-    add_entries(entries, LeafView { page, shape })
+    add_entries(alloc, entries, values, LeafView { page, shape })
 }
 
-/// The entries of all pages that are leaves of a tree.
-pub fn leaf_entries<'a>(
+/// The entries of all pages that are leaves of a tree, but only those that have one of these values.
+pub fn leaf_entries<P: PageSource>(
     alloc: Global,
-    pages: &'a [[u8; PAGE_SIZE]],
+    pages: &mut P,
     shape: NodeShape,
-) -> Result<ValuesInOrder<'a>, AllocError>
-    ensures { IfOk result (λ set. HasValues set (leaf_entries_in shape pages.now)) }
+    values: &ValuesInOrder,
+) -> Result<ValuesInOrder, AllocError>
+    requires few { OfItsPages P.has pages.old (λ list. length list ≤ 2 ^ 32) }
+    ensures entries { OfItsPages P.has pages.new
+        (λ list. IfOk result (λ set. HasValues set (filter (is_entry_of values.now) (leaf_entries_in shape list)))) }
+    ensures before { KeepsItsPages P.has pages.old pages.new }
 {
     let mut entries = no_values(alloc);
-    for page in pages {
-        add_page(&mut entries, page, shape)?;
+    for n in 0..MOST_PAGES {
+        let Some(page) = pages.page(n as u32) else {
+            return Ok(entries);
+        };
+        add_page(alloc, &mut entries, values, &page, shape)?;
     }
     Ok(entries)
 }

@@ -2,20 +2,18 @@
 ghost use Rattle.std.specs.Prelude.{◌≡◌, ℕ, List, true, false, IfOk, IfSome, IsNone, OnOk};
 ghost use Rattle.file_checker.specs.Bytes.{AreAllPages};
 ghost use Rattle.file_checker.specs.Sound.{IsRight, IsSound};
+ghost use Rattle.pages.specs.declared.fault_place.FaultPlace.{FaultPlace};
 ghost use Rattle.open_file.specs.FirstPage.{IsFirstPage};
 ghost use Rattle.page_store.specs.DeviceFile.{page_of_bytes};
-ghost use Rattle.salvaged_records.specs.Salvaged.{with_gate_closed, AreAllAsked, both_outputs, EndsWith};
-ghost use Rattle.salvaged_records.specs.Salvaged.{HasNoHeader, IsSalvageOf, IsSchemaFor, lead_by};
-ghost use Rattle.salvaged_records.specs.Salvaged.{Ends, ListsSlots, ListsSorted, Salvages};
+ghost use Rattle.salvaged_records.specs.Salvaged.{with_gate_closed, AreAllAsked, writings, EndsWith};
+ghost use Rattle.salvaged_records.specs.Salvaged.{HasNoHeader, IsSalvageOf, IsSchemaFor};
+ghost use Rattle.salvaged_records.specs.Salvaged.{Ends, ListsSlots, Salvages};
 
-use crate::lead::Lead;
-use crate::shape::shape_of;
-use crate::slot_lines::write_slots;
-use crate::sorting::{SortedOut, sort_out};
+use crate::slot_salvage::{SalvageForm, salvage_slots};
 use file_checker::{Reason, Verdict, check_bytes};
 use io_state::Key;
 use open_file::Header;
-use pages::PAGE_SIZE;
+use pages::{PAGE_SIZE, PageList};
 use record_layout::Schema;
 use record_listing::{Asked, ListFault, list_sound};
 use record_text::Form;
@@ -25,12 +23,8 @@ use std::io::Write;
 /// The first byte of a file whose gate is closed.
 const CLOSED: u8 = b'C';
 
-/// How the lines of records are written: in a form, and with the page and the slot of each or without.
-#[derive(Clone, Copy)]
-pub struct SalvageForm<'a> {
-    pub form: &'a Form,
-    pub places: bool,
-}
+/// The most pages that have a number.
+const MOST_PAGES: usize = 1 << 32;
 
 /// What was salvaged.
 #[derive(Clone, Copy, Debug, PartialEq, Eq)]
@@ -79,49 +73,12 @@ fn list_all<W: Write, E: Write>(
 ) -> Result<Salvage, ListFault>
     requires sound { (pages : ℕ) × IsSound bytes.items records pages }
     ensures ends { IfOk result (EndsWith deck.now bytes.items form.now false
-        (both_outputs W.contents E.contents (out.old, told.old) (out.new, told.new))) }
+        (writings W.contents E.contents (out.old, told.old) (out.new, told.new))) }
     ensures memory { result ≡ Err ListFault.Memory → W.contents out.new ≡ W.contents out.old }
 {
     match list_sound(alloc, bytes, all_records(alloc), form, out) {
         // A file that is sound has a prime key, so it was listed.
         Ok(_) => Ok(Salvage::All(records)),
-        Err(fault) => Err(fault),
-    }
-}
-
-/// What stands before each line.
-fn lead_by(places: bool) -> Lead
-    ensures { result ≡ lead_by places }
-{
-    if places { Lead::Place } else { Lead::Bare }
-}
-
-/// Tells the slots that are told, and then lists those that are kept.
-fn write_sorted<W: Write, E: Write>(
-    alloc: Global,
-    sorted: &SortedOut<'_>,
-    asked: &SalvageForm<'_>,
-    told: &mut E,
-    out: &mut W,
-) -> Result<(), ListFault>
-    ensures written { OnOk result (ListsSorted sorted.now asked.now
-        (both_outputs W.contents E.contents (out.old, told.old) (out.new, told.new))) }
-    ensures memory { result ≡ Err ListFault.Memory → W.contents out.new ≡ W.contents out.old }
-{
-    match write_slots(
-        alloc,
-        sorted.told.as_slice(),
-        &Form::Text,
-        Lead::Doubt,
-        told,
-    ) {
-        Ok(()) => write_slots(
-            alloc,
-            sorted.kept.as_slice(),
-            asked.form,
-            lead_by(asked.places),
-            out,
-        ),
         Err(fault) => Err(fault),
     }
 }
@@ -139,16 +96,14 @@ fn list_slots<W: Write, E: Write>(
 ) -> Result<(u64, u64), ListFault>
     requires pages { AreAllPages bytes.now pages.now }
     ensures slots { IfOk result (ListsSlots schema.now bytes.now asked.now
-        (both_outputs W.contents E.contents (out.old, told.old) (out.new, told.new))) }
+        (writings W.contents E.contents (out.old, told.old) (out.new, told.new))) }
     ensures memory { result ≡ Err ListFault.Memory → W.contents out.new ≡ W.contents out.old }
 {
-    let Ok(sorted) = sort_out(alloc, pages, schema, shape_of(schema)) else {
+    if pages.len() > MOST_PAGES {
         return Err(ListFault::Memory);
-    };
-    match write_sorted(alloc, &sorted, asked, told, out) {
-        Ok(()) => Ok((sorted.kept.len() as u64, sorted.told.len() as u64)),
-        Err(fault) => Err(fault),
     }
+    let mut source = PageList { pages };
+    salvage_slots(alloc, &mut source, pages.len(), schema, asked, told, out)
 }
 
 /// The whole pages of bytes, where they lie.
@@ -183,11 +138,11 @@ fn list_refused_by<W: Write, E: Write>(
     told: &mut E,
     out: &mut W,
 ) -> Result<Salvage, ListFault>
-    requires refused { IsRight bytes.now (Verdict.Unsound reason) }
+    requires refused { (place : FaultPlace) × IsRight bytes.now (Verdict.Unsound reason place) }
     requires pages { AreAllPages bytes.now pages.now }
     requires schema { IsSchemaFor deck.now bytes.now schema.now }
     ensures ends { IfOk result (Salvages deck.now bytes.now asked.now
-        (both_outputs W.contents E.contents (out.old, told.old) (out.new, told.new))) }
+        (writings W.contents E.contents (out.old, told.old) (out.new, told.new))) }
     ensures memory { result ≡ Err ListFault.Memory → W.contents out.new ≡ W.contents out.old }
 {
     match list_slots(alloc, bytes, pages, schema, asked, told, out) {
@@ -207,9 +162,9 @@ fn list_refused<W: Write, E: Write>(
     told: &mut E,
     out: &mut W,
 ) -> Result<Salvage, ListFault>
-    requires refused { IsRight bytes.now (Verdict.Unsound reason) }
+    requires refused { (place : FaultPlace) × IsRight bytes.now (Verdict.Unsound reason place) }
     ensures ends { IfOk result (Salvages deck.now bytes.now asked.now
-        (both_outputs W.contents E.contents (out.old, told.old) (out.new, told.new))) }
+        (writings W.contents E.contents (out.old, told.old) (out.new, told.new))) }
     ensures memory { result ≡ Err ListFault.Memory → W.contents out.new ≡ W.contents out.old }
 {
     let pages = pages_in(bytes);
@@ -258,7 +213,7 @@ fn list_placed<W: Write, E: Write>(
     requires sound { (pages : ℕ) × IsSound bytes.now records pages }
     requires places { asked.now.places ≡ true }
     ensures ends { IfOk result (Salvages deck.now bytes.now asked.now
-        (both_outputs W.contents E.contents (out.old, told.old) (out.new, told.new))) }
+        (writings W.contents E.contents (out.old, told.old) (out.new, told.new))) }
     ensures memory { result ≡ Err ListFault.Memory → W.contents out.new ≡ W.contents out.old }
 {
     let pages = pages_in(bytes);
@@ -285,7 +240,7 @@ fn list_whole<W: Write, E: Write>(
 ) -> Result<Salvage, ListFault>
     requires sound { (pages : ℕ) × IsSound bytes.items records pages }
     ensures ends { IfOk result (Salvages deck.now bytes.items asked.now
-        (both_outputs W.contents E.contents (out.old, told.old) (out.new, told.new))) }
+        (writings W.contents E.contents (out.old, told.old) (out.new, told.new))) }
     ensures memory { result ≡ Err ListFault.Memory → W.contents out.new ≡ W.contents out.old }
 {
     if asked.places {
@@ -316,7 +271,7 @@ pub fn salvage_records<W: Write, E: Write>(
     out: &mut W,
 ) -> Result<Salvage, ListFault>
     ensures ends { Ends deck.now bytes.items asked.now
-        (both_outputs W.contents E.contents (out.old, told.old) (out.new, told.new)) result }
+        (writings W.contents E.contents (out.old, told.old) (out.new, told.new)) result }
     ensures memory { result ≡ Err ListFault.Memory → W.contents out.new ≡ W.contents out.old }
 {
     let mut bytes = bytes;
@@ -325,7 +280,7 @@ pub fn salvage_records<W: Write, E: Write>(
         Ok(Verdict::Sound { records, .. }) => {
             list_whole(alloc, bytes, deck, records, asked, told, out)
         }
-        Ok(Verdict::Unsound(reason)) => {
+        Ok(Verdict::Unsound(reason, _)) => {
             list_refused(alloc, bytes.as_slice(), deck, reason, asked, told, out)
         }
         Err(_) => Err(ListFault::Memory),

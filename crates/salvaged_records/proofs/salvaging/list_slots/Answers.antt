@@ -1,15 +1,8 @@
-use Rattle.std.proofs.Common.{rules}
+use Rattle.std.proofs.Common.{refl, sym}
+use Rattle.std.proofs.lemmas.Result.{IfOk-weaker}
 use Rattle.salvaged_records.proofs.salvaging.list_slots.Goals as goal
 
-pub returns-in-Ok-write_sorted-clause-slots : goal.returns-in-Ok-write_sorted-clause-slots
-returns-in-Ok-write_sorted-clause-slots g c = record {
-  shape = c.shape_of.result;
-  shape_is = c.shape_of.ensures;
-  pages = c.args.pages.now;
-  all_pages = c.requires.pages;
-  sorted = c.in-Ok.sorted;
-  sorted_is = c.in-Ok.ensures;
-  written = c.in-Ok-write_sorted.ensures.written;
-  listed_is = search rules;
-  told_is = search rules;
-}
+pub returns-clause-slots : goal.returns-clause-slots
+returns-clause-slots g c =
+    IfOk-weaker c.salvage_slots.result _ _ (λ counts slots. record { pages = c.args.pages.now; all_pages = c.requires.pages; slots = slots })
+    (c.salvage_slots.ensures.slots c.args.pages.now (sym (c.salvage_slots.ensures.before _ refl)))

@@ -1,13 +1,12 @@
-use Rattle.std.proofs.Common.{map, take, vec_capacity}
-use Rattle.record_text.specs.Room.{IsLineRoom}
-use Rattle.streams.specs.Output.{HoldsText}
-use Rattle.salvaged_records.specs.Slots.{found_slot}
-use Rattle.salvaged_records.specs.Lines.{salvaged_lines}
+use Rattle.std.proofs.Common.{◌≤◌, ◌+◌}
+use Rattle.record_heap.specs.Slot.{room}
+use Rattle.salvaged_records.specs.Slots.{slots_to}
+use Rattle.salvaged_records.specs.Writing.{HoldsSlots}
 use Rattle.salvaged_records.proofs.slot_lines.hold_slots.Given as goal
 
-abbrev pub invariant-loop-slot : goal.invariant-loop-slot
-invariant-loop-slot g l =
-    record {
-      held : HoldsText (g.W.Write.contents l.fn.out) (g.W.Write.contents l.out) l.fn.lines l.lines (salvaged_lines l.fn.lead l.fn.form (map found_slot (take l.slot-index l.fn.slots)));
-      room : IsLineRoom l.fn.form 4077 (vec_capacity l.line);
-    }
+abbrev pub invariant-loop-i : goal.invariant-loop-i
+invariant-loop-i g l = record {
+  within : l.i ≤ room l.fn.shape;
+  held : HoldsSlots l.fn.list (g.W.Write.contents l.fn.out) (g.W.Write.contents l.out) l.fn.held l.held (slots_to l.fn.shape l.fn.page l.fn.n l.i);
+  few : l.held.count ≤ l.fn.held.count + l.i;
+}

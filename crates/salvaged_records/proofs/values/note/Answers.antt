@@ -1,12 +1,11 @@
 use Rattle.std.proofs.Common.{sym, ◌∙◌}
-use Rattle.salvaged_records.proofs.ValueLemmas.{noted_first, noted_again}
+use Rattle.salvaged_records.proofs.ValueLemmas.{noted_new, noted_old}
 use Rattle.salvaged_records.proofs.values.note.Goals as goal
 
-pub returns-in-Ok-true : goal.returns-in-Ok-true
-returns-in-Ok-true c =
-    noted_first c.args.value c.args.seen.now c.insert.new.self c.args.twice.now c.in-Ok-true.ensures.updates (sym c.in-Ok-true.field-0-test ∙ c.in-Ok-true.ensures.added)
+pub returns-then-has_value : goal.returns-then-has_value
+returns-then-has_value c =
+    noted_old c.add_value.result c.args.value.now c.args.seen.now c.args.twice.now c.add_value.new.values c.add_value.ensures (sym c.has_value.ensures ∙ c.if-has_value.true)
 
-pub returns-in-Ok : goal.returns-in-Ok
-returns-in-Ok c =
-    noted_again c.args.value c.args.seen.now c.insert.new.self c.args.twice.now c.insert-in-Ok-false.new.self c.in-Ok-false.ensures.updates c.in-Ok.ensures.updates
-    (sym c.in-Ok-false.field-0-test ∙ c.in-Ok-false.ensures.added)
+pub returns : goal.returns
+returns c =
+    noted_new c.add_value-2.result c.args.value.now c.args.seen.now c.add_value-2.new.values c.args.twice.now c.add_value-2.ensures (sym c.has_value.ensures ∙ c.if-has_value.false)
