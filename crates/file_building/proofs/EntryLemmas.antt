@@ -48,7 +48,7 @@ stamp_of_new schema stamp j bytes within =
 
 -- ---- the entries of rows
 
-entry_is : (schema : Schema) (stamp j : ℕ) (bytes : List ℕ) → IsSchema schema → suc j < length schema.keys
+pub entry_is : (schema : Schema) (stamp j : ℕ) (bytes : List ℕ) → IsSchema schema → suc j < length schema.keys
     → entry_of_new schema (suc j) stamp (take schema.least bytes) ≡ alt_entry schema (suc j) (new_row schema stamp bytes)
 entry_is schema stamp j bytes is within =
     let value = value_in_front schema (suc j) bytes is within in

@@ -8,6 +8,11 @@ pub mod SortedLemmas
 pub mod RankLemmas
 pub mod FileLemmas
 pub mod EntryLemmas
+pub mod HeldLemmas
+pub mod WithinLemmas
+pub mod BatchLemmas
+pub mod RereadLemmas
+pub mod BatchingLemmas
 pub mod BuiltLemmas
 pub mod RecordLemmas
 pub mod AlternateLemmas

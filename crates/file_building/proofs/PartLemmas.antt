@@ -98,7 +98,7 @@ each_front P [] x h = (tt, h.0)
 each_front P (y ∷ xs) x h = let rest = each_front P xs x h.1 in ((h.0, rest.0), rest.1)
 
 -- pages in use are as they were where new ones were taken, and outside these
-untouched : (before after : PageMap) (own now : List ℕ) → Each (λ n. IsSome (before n)) own → ChangesPages before after [] now → Each (λ n. (after n ≡ before n) × IsOutside now n) own
+pub untouched : (before after : PageMap) (own now : List ℕ) → Each (λ n. IsSome (before n)) own → ChangesPages before after [] now → Each (λ n. (after n ≡ before n) × IsOutside now n) own
 untouched before after own now live changes = left_alone before after [] now own changes live (no_pages own)
 
 parted_more : (before after : PageMap) (owns : List (List ℕ)) (now : List ℕ) → AreUsed before owns → ChangesPages before after [] now → Parted before owns → Parted after (owns ++ now ∷ [])

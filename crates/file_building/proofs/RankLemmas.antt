@@ -23,15 +23,15 @@ use Rattle.key_index.proofs.OrderLemmas.{ranks}
 use Rattle.open_file.specs.InOrder.{put_row, in_order, alt_entry, alt_entries}
 use Rattle.open_file.proofs.OrderLemmas.{either}
 use Rattle.open_file.proofs.PartsLemmas.{from_eq}
-use Rattle.file_building.specs.Ranks.{RisesBy, is_lower, RanksRise, NoRankTwice}
-use Rattle.file_building.proofs.SortedLemmas.{put_by, sorted_by, Untied, AreUntied, are_sorted, are_untied, sorted_map}
+use Rattle.file_building.specs.Ranks.{RisesBy, is_lower, RanksRise, NoRankTwice, Untied, AreUntied}
+use Rattle.file_building.proofs.SortedLemmas.{put_by, sorted_by, are_sorted, are_untied, sorted_map}
 
 -- ---- entries in the order of their ranks
 
-abbrev rank_order : AltEntry → AltEntry → Ordering
+abbrev pub rank_order : AltEntry → AltEntry → Ordering
 rank_order a b = rank_cmp a.value.items a.stamp b.value.items b.stamp
 
-rank_total : IsTotalOrder rank_order
+pub rank_total : IsTotalOrder rank_order
 rank_total = then_total (on_total (λ (e : AltEntry). e.value.items) nat_list_cmp_total) (on_total (λ (e : AltEntry). e.stamp) nat_cmp_total)
 
 from_is_lt : (o : Ordering) → is_lt o ≡ true → o ≡ Less
@@ -78,7 +78,7 @@ order_is schema k [] = refl
 order_is schema k (row ∷ rows) = ap (put_by (below schema k) row) (order_is schema k rows) ∙ put_is schema k row (in_order schema k rows)
 
 -- the entries of rows, sorted, are those of the rows in order
-entries_sorted : (schema : Schema) (k : ℕ) (rows : List Row) → sorted_by is_lower (map (alt_entry schema k) rows) ≡ alt_entries schema k rows
+pub entries_sorted : (schema : Schema) (k : ℕ) (rows : List Row) → sorted_by is_lower (map (alt_entry schema k) rows) ≡ alt_entries schema k rows
 entries_sorted schema k rows = sorted_map is_lower (below schema k) (alt_entry schema k) (λ a b. refl) rows ∙ ap (map (alt_entry schema k)) (order_is schema k rows)
 
 untied_rows : (schema : Schema) (k : ℕ) (row : Row) (rows : List Row) → Each (Untied is_lower (alt_entry schema k row)) (map (alt_entry schema k) rows)

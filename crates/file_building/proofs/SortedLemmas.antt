@@ -1,12 +1,12 @@
 -- As many rising entries as there are rows, each of which is that of a row, are the rows' entries in order.
 use Rattle.std.proofs.Common.{◌≡◌, ◌≢◌, ◌⊎◌, suc, ◌+◌, ◌≤◌, Bool, true, false, List, [], ◌∷◌, ◌++◌, length, refl, ap, sym, ◌∙◌, arith, inl, inr, cond, map}
 use Rattle.std.proofs.lemmas.List.{length-append}
-use Rattle.std.specs.Prelude.{⊤, if◌then◌else◌}
+use Rattle.std.specs.Prelude.{if◌then◌else◌}
 use Rattle.pages.specs.Each.{Each}
 use Rattle.pages.proofs.EachLemmas.{each_weaker, each_join, each_left, each_right}
 use Rattle.record_heap.specs.Chain.{IsOneOf}
 use Rattle.open_file.proofs.OrderLemmas.{either}
-use Rattle.file_building.specs.Ranks.{RisesBy}
+use Rattle.file_building.specs.Ranks.{RisesBy, Untied, AreUntied}
 
 -- sorted by insertion
 abbrev pub put_by : {X : Type 0} → (X → X → Bool) → X → List X → List X
@@ -16,14 +16,6 @@ put_by lt r (x ∷ xs) = if lt x r then x ∷ put_by lt r xs else r ∷ x ∷ xs
 abbrev pub sorted_by : {X : Type 0} → (X → X → Bool) → List X → List X
 sorted_by lt [] = []
 sorted_by lt (r ∷ rs) = put_by lt r (sorted_by lt rs)
-
--- of two, one comes before the other
-abbrev pub Untied : {X : Type 0} → (X → X → Bool) → X → X → Type 0
-Untied lt r x = (lt x r ≡ true) ⊎ (lt r x ≡ true)
-
-abbrev pub AreUntied : {X : Type 0} → (X → X → Bool) → List X → Type 0
-AreUntied lt [] = ⊤
-AreUntied lt (r ∷ rs) = Each (Untied lt r) rs × AreUntied lt rs
 
 module _ {X : Type 0} (lt : X → X → Bool) (onward : (x y z : X) → lt x y ≡ true → lt y z ≡ true → lt x z ≡ true) (itself : (x : X) → lt x x ≡ false)
     (decide : (x y : X) → (x ≡ y) ⊎ (x ≢ y)) where

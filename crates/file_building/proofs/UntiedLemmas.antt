@@ -14,9 +14,9 @@ use Rattle.key_index.specs.declared.entry.AltEntry.{AltEntry}
 use Rattle.key_index.proofs.OrderLemmas.{by_order}
 use Rattle.open_file.proofs.OrderLemmas.{either}
 use Rattle.file_building.specs.declared.ranked.Ranked.{Ranked}
-use Rattle.file_building.specs.Ranks.{RisesBy, is_lower, RanksRise}
+use Rattle.file_building.specs.Ranks.{RisesBy, is_lower, RanksRise, Untied, AreUntied}
 use Rattle.file_building.specs.Entries.{entry_in, ranked_entries}
-use Rattle.file_building.proofs.SortedLemmas.{put_by, sorted_by, Untied, AreUntied, are_sorted, are_untied}
+use Rattle.file_building.proofs.SortedLemmas.{put_by, sorted_by, are_sorted, are_untied}
 use Rattle.file_building.proofs.RankLemmas.{onward, itself, decide}
 use Rattle.file_building.proofs.ValueLeadLemmas.{lead_rises}
 
@@ -43,7 +43,7 @@ put_rises r (x ∷ xs) untied rises =
     below above (inl h) = absurd (cc (above, h))
     below above (inr h) = h
 
-sorted_rises : (rs : List AltEntry) → AreUntied is_lower rs → RisesBy is_lower (sorted_by is_lower rs)
+pub sorted_rises : (rs : List AltEntry) → AreUntied is_lower rs → RisesBy is_lower (sorted_by is_lower rs)
 sorted_rises [] untied = tt
 sorted_rises (r ∷ rs) untied = put_rises r (sorted_by is_lower rs) (all_in (Untied is_lower r) rs untied.0) (sorted_rises rs untied.1)
 

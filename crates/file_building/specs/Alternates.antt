@@ -22,7 +22,10 @@ use Rattle.open_file.specs.Lent.{LendsToChange}
 use Rattle.file_building.specs.Written.{HaveLengths, rows_of}
 use Rattle.file_building.specs.Ranks.{RanksRise, NoRankTwice}
 use Rattle.file_building.specs.Rows.{RowsStandBuilt}
-use Rattle.file_building.specs.Entries.{AreFronts}
+use Rattle.file_building.specs.Entries.{AreFronts, AreKeptFronts}
+use Rattle.file_building.specs.declared.kept_fronts.KeptFronts.{KeptFronts}
+use Rattle.file_building.specs.declared.rows_builder.RowParts.{RowParts}
+use Rattle.file_building.specs.Rereading.{HasStampsOf}
 use Rattle.file_building.specs.Steps.{WhereBuiltHonestly}
 
 -- the entries are as long as those of an index
@@ -76,6 +79,24 @@ pub record BuildsAlternate {S : Type 0} (shown : ShownPages S) (schema : Schema)
       (shown.state before).live (shown.state after).live (IsTrue (shown.state after).is_sound)))
   pub of : IfOk result (λ found. IfSome found (IsIndexOfKey schema k))
 
+-- so many records were put into a heap and a prime index, and where all their fronts are kept, they are these
+pub record AreRecordsOf (schema : Schema) (parts : RowParts) (count : ℕ) (fronts : KeptFronts)
+    (records : List (List ℕ)) : Type 0 where
+  pub long : HaveLengths schema records
+  pub kept : AreKeptFronts schema records fronts
+  pub stamps : HasStampsOf schema parts
+  pub many : length records ≡ count
+
+-- a call that builds the index of key k from the fronts of records, or from their rows
+pub record BuildsKey {S : Type 0} (shown : ShownPages S) (schema : Schema) (k : ℕ) (parts : RowParts) (count : ℕ)
+    (fronts : KeptFronts) (before after : S) (result : Result (Option AltIndex) Fault) : Type 0 where
+  pub built : WhereBuiltHonestly shown before after ((records : List (List ℕ))
+      → AreRecordsOf schema parts count fronts records → (alternates : List AltIndex)
+      → RowsStandBuilt schema parts.heap parts.prime alternates (shown.state before).live (rows_of schema records)
+      → IsAnswer result (EndsAlternate schema k (rows_of schema records) (shown.state before).live
+      (shown.state after).live (IsTrue (shown.state after).is_sound)))
+  pub of : IfOk result (λ found. IfSome found (IsIndexOfKey schema k))
+
 -- no two rows have one rank by an alternate key
 abbrev pub AllRanksDiffer : Schema → List Row → Type 0
 AllRanksDiffer schema rows = (j : ℕ) → suc j < length schema.keys → NoRankTwice schema (suc j) rows
@@ -98,11 +119,11 @@ EndsAlternates schema rows heap prime after is_sound (Some alternates) =
     RowsStandBuilt schema heap prime alternates.items after rows × AllRanksDiffer schema rows × is_sound
 
 -- a call that builds the index of each alternate key, beside the rows
-pub record BuildsAlternates {S : Type 0} (shown : ShownPages S) (schema : Schema) (fronts : List ℕ)
-    (before after : S) (result : Result (Option (ArrayVec AltIndex)) Fault) : Type 0 where
-  pub built : WhereBuiltHonestly shown before after ((records : List (List ℕ)) → HaveLengths schema records
-      → AreFronts schema records fronts → (heap : Heap) (prime : PrimeIndex)
-      → RowsStandBuilt schema heap prime [] (shown.state before).live (rows_of schema records)
-      → IsAnswer result (EndsAlternates schema (rows_of schema records) heap prime
+pub record BuildsAlternates {S : Type 0} (shown : ShownPages S) (schema : Schema) (parts : RowParts) (count : ℕ)
+    (fronts : KeptFronts) (before after : S) (result : Result (Option (ArrayVec AltIndex)) Fault) : Type 0 where
+  pub built : WhereBuiltHonestly shown before after ((records : List (List ℕ))
+      → AreRecordsOf schema parts count fronts records
+      → RowsStandBuilt schema parts.heap parts.prime [] (shown.state before).live (rows_of schema records)
+      → IsAnswer result (EndsAlternates schema (rows_of schema records) parts.heap parts.prime
       (shown.state after).live (IsTrue (shown.state after).is_sound)))
   pub of : IfOk result (λ found. IfSome found (λ alternates. AreAllIndexesFor schema alternates.items))

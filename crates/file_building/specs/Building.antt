@@ -15,7 +15,7 @@ use Rattle.file_building.specs.declared.file_builder.Built.{Built}
 use Rattle.file_building.specs.declared.file_builder.Built.TheVariants.{File as AFile, Clash}
 use Rattle.file_building.specs.Written.{with_all_added, AreAccepted, RecordsRise, HaveLengths, rows_of}
 use Rattle.file_building.specs.Rows.{HasRowsSoFar}
-use Rattle.file_building.specs.Entries.{AreFronts}
+use Rattle.file_building.specs.Entries.{AreKeptFronts}
 use Rattle.file_building.specs.Opening.{IsOpenedWith}
 use Rattle.file_building.specs.Steps.{WhereBuiltHonestly, KeepsWhileBuilding}
 
@@ -35,7 +35,7 @@ pub record IsBuildingFile (builder : FileBuilder) (pages : PageMap) (records : L
   pub rising : RecordsRise builder.schema records
   pub lengths : HaveLengths builder.schema records
   pub rows : HasRowsSoFar builder.schema builder.rows pages (rows_of builder.schema records)
-  pub fronts : AreFronts builder.schema records builder.fronts.items
+  pub fronts : AreKeptFronts builder.schema records builder.fronts
   pub last : builder.last.items ≡ last_prime builder.schema records
   pub count : builder.count ≡ length records
 

@@ -1,10 +1,11 @@
 -- The entries that an alternate key has of records.
-use Rattle.std.specs.Prelude.{◌≡◌, ℕ, ◌+◌, ◌*◌, ◌/◌, List, [], ◌∷◌, length, map, take, if◌then◌else◌}
+use Rattle.std.specs.Prelude.{◌≡◌, ℕ, ◌+◌, ◌*◌, ◌/◌, List, [], ◌∷◌, ◌++◌, true, length, map, take, if◌then◌else◌}
 use Rattle.record_layout.specs.Schema.{Schema, key_at, value_of, prime_of, has_duplicates}
 use Rattle.pages.specs.Chunks.{chunks}
 use Rattle.key_index.specs.declared.entry.AltEntry.{AltEntry}
 use Rattle.key_index.specs.Stored.{entry_to}
 use Rattle.file_building.specs.declared.ranked.Ranked.{Ranked}
+use Rattle.file_building.specs.declared.kept_fronts.KeptFronts.{KeptFronts}
 
 -- the stamp that a new record has in key k, 0 in a unique one
 abbrev pub stamp_of_key : Schema → ℕ → ℕ → ℕ
@@ -37,3 +38,12 @@ entries_of_fronts schema k fronts =
 pub record AreFronts (schema : Schema) (records : List (List ℕ)) (fronts : List ℕ) : Type 0 where
   pub long : length fronts ≡ length records * schema.least
   pub are : chunks schema.least (length records) fronts ≡ map (take schema.least) records
+
+-- all fronts are kept that are to be
+abbrev pub AreKeptFronts : Schema → List (List ℕ) → KeptFronts → Type 0
+AreKeptFronts schema records fronts = fronts.are_all ≡ true → AreFronts schema records fronts.bytes.items
+
+-- a call that keeps one more, where all are kept
+pub record KeepsFront (old new : KeptFronts) (front : List ℕ) : Type 0 where
+  pub were : new.are_all ≡ true → old.are_all ≡ true
+  pub kept : new.are_all ≡ true → new.bytes.items ≡ old.bytes.items ++ front

@@ -5,7 +5,12 @@ pub mod Rows
 pub mod Stamps
 pub mod ValueLead
 pub mod Entries
+pub mod Within
+pub mod Held
+pub mod Batches
+pub mod Rereading
 pub mod Alternates
+pub mod Batching
 pub mod Opening
 pub mod Building
 pub mod Parts

@@ -18,12 +18,13 @@ use std::num::NonZeroUsize;
 
 /// Makes the file of `unit`, or makes it anew, gives it the records of a source, which gave none yet,
 /// until it gives no more, and closes it. It may grow to `limit` pages, of which at most `frames` are
-/// held in memory. For each record as many bytes are held as the shortest one has, and 40 more; at most
-/// `memory` in all.
+/// held in memory. For each record as many bytes are held as the shortest one has, and 48 more, while
+/// these are at most `memory` in all. Above that none of these is held: the new file is read again for
+/// each alternate key, as often as its entries, of which at most `memory` bytes are held at once, ask for.
 ///
 /// The file is refused until all of it is written. `OutOfOrder`, `Clash`: it is left so. `Unclosed`: it is
 /// refused, or whole and closed, and the fault is Device. Device; Full; Memory, also where `memory` is too
-/// few bytes: the file is as it was or refused then.
+/// few bytes for a few entries of a key: the file is as it was or refused then.
 pub fn build_closed<S: Shelf, R: RecordSource>(
     alloc: Global,
     shelf: &mut S,

@@ -13,9 +13,6 @@ use pages::Pages;
 use record_layout::Schema;
 use std::alloc::Global;
 
-/// So many bytes are held of a record, beside its front.
-const ENTRY_BYTES: usize = 40;
-
 /// What became of the records of a source.
 #[derive(Drop)]
 pub enum BuiltFile {
@@ -28,7 +25,7 @@ pub enum BuiltFile {
 }
 
 /// Builds a file from the records of a source, in pages of which none is in use. At most `memory` bytes
-/// are held of the records.
+/// are held of the records: where these are too few, the rows are read again for each alternate key.
 ///
 /// Device; Full where no page is left; Memory.
 pub fn build_file<P: Pages, R: RecordSource>(
@@ -45,9 +42,8 @@ pub fn build_file<P: Pages, R: RecordSource>(
     ensures all { IfOk result (WhereBuilt (R.has_ended records.new)) }
     ensures reads { R.reads_on records.old records.new }
 {
-    let mut builder = FileBuilder::new(alloc, schema);
-    let most = memory / (usize::from(schema.least()) + ENTRY_BYTES);
-    match push_records(&mut builder, pages, records, most) {
+    let mut builder = FileBuilder::new(alloc, schema, memory);
+    match push_records(&mut builder, pages, records) {
         Ok(Pushed::Done) => match builder.finish(alloc, pages) {
             Ok(Built::File(file)) => Ok(BuiltFile::File(file)),
             Ok(Built::Clash) => Ok(BuiltFile::Clash),
@@ -58,12 +54,11 @@ pub fn build_file<P: Pages, R: RecordSource>(
     }
 }
 
-/// Puts the records of a source into a file, one after another: at most so many, or Memory is answered.
+/// Puts the records of a source into a file, one after another.
 fn push_records<P: Pages, R: RecordSource>(
     builder: &mut FileBuilder,
     pages: &mut P,
     records: &mut R,
-    most: usize,
 ) -> Result<Pushed, Fault>
     requires target { LendsToChange P.shown pages.old }
     requires schema { R.schema records.old ≡ builder_schema builder.old }
@@ -72,7 +67,7 @@ fn push_records<P: Pages, R: RecordSource>(
     ensures all { IfOk result (WherePushed (R.has_ended records.new)) }
     ensures reads { R.reads_on records.old records.new }
 {
-    for _ in 0..most {
+    for _ in 0..usize::MAX {
         if !records.next() {
             return Ok(Pushed::Done);
         }

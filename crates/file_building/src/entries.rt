@@ -2,7 +2,7 @@
 
 ghost use Rattle.std.specs.Prelude.{◌≡◌, ◌<◌, ◌↔◌, length, IfOk, IsOkUnless, IsTrue};
 ghost use Rattle.file_building.specs.Entries.{ranked_entries, entries_of_fronts};
-ghost use Rattle.file_building.specs.Ranks.{RanksRise};
+ghost use Rattle.file_building.specs.Ranks.{RanksRise, SortsRanks};
 
 use crate::ranked::Ranked;
 use io_state::Fault;
@@ -44,4 +44,12 @@ pub fn rise(entries: &[Ranked<'_>]) -> bool
         }
     }
     true
+}
+
+/// Puts entries in the order of their ranks. False where two have one rank.
+pub fn sort_ranks(entries: &mut Vec<Ranked<'_>>) -> bool
+    ensures { SortsRanks (ranked_entries entries.old.items) (ranked_entries entries.new.items) result }
+{
+    entries.sort_unstable();
+    rise(entries.as_slice())
 }

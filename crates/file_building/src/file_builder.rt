@@ -6,6 +6,7 @@ ghost use Rattle.file_building.specs.Rows.{slots_built, width_built};
 ghost use Rattle.file_building.specs.Opening.{IsShapeFor};
 
 use crate::alternates::build_alternates;
+use crate::kept_fronts::KeptFronts;
 use crate::opening::open_parts;
 use crate::rows_builder::RowsBuilder;
 use crate::stamps::{heap_shape, new_stamps};
@@ -40,12 +41,14 @@ pub enum Built {
 /// A file that is being built from records whose prime values rise.
 ///
 /// Of each record the heap and the prime index are written as it comes. What is kept of it in
-/// memory is its front: as many bytes as the shortest record has, in which all its keys are.
+/// memory is its front: as many bytes as the shortest record has, in which all its keys are. Where
+/// memory does not suffice for all fronts, none is kept, and at the end the rows are read again, several
+/// times for each alternate key.
 #[derive(Drop)]
 pub struct FileBuilder {
     pub(crate) schema: Schema,
     pub(crate) rows: RowsBuilder,
-    pub(crate) fronts: Vec<u8>,
+    pub(crate) fronts: KeptFronts,
     // The prime value of the last record.
     pub(crate) last: Key,
     pub(crate) count: u64,
@@ -59,15 +62,16 @@ impl FileBuilder {
     ghost use Rattle.file_building.specs.Building.{IsNewBuilder, CanPushRecord, TakesRecordBehind, TakesRisingRecord};
     ghost use Rattle.file_building.specs.Building.{FinishesFile, builder_schema};
 
-    /// A file without records, of which no page is taken yet.
-    pub fn new(alloc: Global, schema: &Schema) -> FileBuilder
+    /// A file without records, of which no page is taken yet. At most `memory` bytes are to be held of
+    /// the records.
+    pub fn new(alloc: Global, schema: &Schema, memory: usize) -> FileBuilder
         ensures { IsNewBuilder schema.now result }
     {
         let shape = heap_shape(schema);
         FileBuilder {
             schema: schema.copy(),
             rows: RowsBuilder::new(alloc, shape, schema.part(0).length),
-            fronts: Vec::new(alloc),
+            fronts: KeptFronts::new(alloc, usize::from(schema.least()), memory),
             last: Key::new(),
             count: 0,
         }
@@ -99,7 +103,7 @@ impl FileBuilder {
     /// Writes what is not written yet, makes the index of each alternate key, and answers the file.
     /// A fault may leave pages taken.
     ///
-    /// Device; Full where no page is left; Memory.
+    /// Device; Full where no page is left; Memory, also where it does not suffice for one entry.
     pub fn finish<P: Pages>(self, alloc: Global, pages: &mut P) -> Result<Built, Fault>
         requires { CanWrite P.shown pages.old }
         ensures { FinishesFile P.shown pages.old pages.new self result }
@@ -112,7 +116,7 @@ impl FileBuilder {
             count,
         } = self;
         let rows = rows.finish(alloc, pages)?;
-        let alternates = match build_alternates(alloc, pages, &schema, fronts.as_slice())? {
+        let alternates = match build_alternates(alloc, pages, &schema, &rows, count, &fronts)? {
             Some(alternates) => alternates,
             None => return Ok(Built::Clash),
         };
@@ -135,9 +139,7 @@ impl FileBuilder {
         let value = self.schema.value(record, 0);
         self.rows.push(pages, value, stamps.as_slice(), record)?;
         let least = usize::from(self.schema.least());
-        if self.fronts.extend_from_slice(&record[..least]).is_err() {
-            return Err(Fault::Memory);
-        }
+        self.fronts.push(&record[..least]);
         self.last = self.schema.extract(record, 0);
         self.count = stamp;
         Ok(())

@@ -13,6 +13,9 @@
 
 mod alternates;
 mod attaching;
+mod batch;
+mod batch_reading;
+mod batching;
 mod building;
 mod built_end;
 mod built_file;
@@ -31,6 +34,8 @@ mod fault;
 mod file_builder;
 mod file_parts;
 mod filling;
+mod held_entries;
+mod kept_fronts;
 mod leading;
 mod looking;
 mod moving;
@@ -40,6 +45,7 @@ mod opening;
 mod ranked;
 mod record_source;
 mod records_mover;
+mod row_reading;
 mod rows;
 mod rows_builder;
 mod rows_by_key;

@@ -155,8 +155,18 @@ fn too_little_memory_is_told(rt: HostRuntime) {
     let two = b"0001AAAA11110002BBBB2222";
     assert_equal(&rt, refused(&rt, alloc, two, 52), Err(Fault::Memory));
     let mut shelf = MemShelf::new(alloc);
-    let built = builds(&rt, alloc, &mut shelf, two, 104);
+    let built = builds(&rt, alloc, &mut shelf, two, 120);
     assert_equal(&rt, built, Ok(FileBuilt::Closed { records: 2 }));
+}
+
+/// Memory for the fronts of two records, and for one entry of a batch.
+#[test]
+fn records_are_built_above_the_memory_for_them(rt: HostRuntime) {
+    let alloc = rt.alloc();
+    let bytes = numbered(&rt, alloc, 40);
+    let mut shelf = MemShelf::new(alloc);
+    let built = builds(&rt, alloc, &mut shelf, bytes.as_slice(), 144);
+    assert_equal(&rt, built, Ok(FileBuilt::Closed { records: 40 }));
 }
 
 /// The change of this number fails, while a file of 40 records is built: it is told, and what is found

@@ -4,7 +4,6 @@ use Rattle.std.proofs.lemmas.List.Sorted.{IsPermutation-map, IsPermutation-sym, 
 use Rattle.std.specs.Prelude.{slice_index_or}
 use Rattle.std.specs.Ordering.{is_lt}
 use Rattle.std.proofs.lemmas.Bool.{false≢true}
-use Rattle.file_building.proofs.SortedLemmas.{AreUntied}
 use Rattle.file_building.proofs.UntiedLemmas.{untied_in, sorted_rise, parts_cmp, lower_parts}
 use Rattle.pages.specs.Chunks.{chunks}
 use Rattle.pages.specs.Each.{Each}
@@ -16,7 +15,7 @@ use Rattle.key_index.specs.Standing.{AltChanged}
 use Rattle.open_file.specs.InOrder.{alt_entry}
 use Rattle.file_building.specs.declared.ranked.Ranked.{Ranked}
 use Rattle.file_building.specs.Written.{rows_of}
-use Rattle.file_building.specs.Ranks.{RanksRise, is_lower}
+use Rattle.file_building.specs.Ranks.{RanksRise, AreUntied, is_lower}
 use Rattle.file_building.specs.Entries.{entry_in, ranked_entries, entries_from}
 use Rattle.file_building.specs.Alternates.{FitIndex}
 use Rattle.file_building.proofs.RankLemmas.{are_those_of, untied_entries}

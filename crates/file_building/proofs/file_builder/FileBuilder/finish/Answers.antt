@@ -9,8 +9,8 @@ use Rattle.indexed_file.specs.File.{File}
 use Rattle.indexed_file.specs.Sound.{is_file, are_rows}
 use Rattle.open_file.specs.Stands.{Stands}
 use Rattle.file_building.specs.Written.{rows_of}
-use Rattle.file_building.specs.Entries.{AreFronts}
-use Rattle.file_building.specs.Alternates.{EndsAlternates, AreAllIndexesFor}
+use Rattle.record_heap.specs.declared.shape.SlotShape.{SlotShape}
+use Rattle.file_building.specs.Alternates.{EndsAlternates, AreAllIndexesFor, AreRecordsOf}
 use Rattle.file_building.specs.Opening.{IsShapeFor, StandBehindHeader, ArePartsFor}
 use Rattle.file_building.proofs.StepLemmas.{StepLaws, cause_since, handed_on, no_answer, damage_cause}
 use Rattle.file_building.proofs.WrittenLemmas.{file_of, accepted_is_file, file_was_accepted, each_is_row}
@@ -35,6 +35,7 @@ build_alternates-requires g c = record {
     ready = g.met.P.Pages.writes_ready c.args.pages.now c.finish.new.pages c.finish.ensures.keeps.step c.requires.ready;
     «open» = g.met.P.Pages.writes_changing c.args.pages.now c.finish.new.pages c.finish.ensures.keeps.step c.requires.changing;
   };
+  few = c.args.self.few;
 }
 
 pub returns-in_err-alternates : goal.returns-in_err-alternates
@@ -50,9 +51,9 @@ returns-in_err-alternates g c =
       finished = λ honest sound records h free.
           let hb = g.met.P.Pages.writes_honestly mid late keeps.step honest in
           let made = (c.in_ok-rows.ensures.finishes.finished hb sound schema (rows_of schema records) (rows_rise_of schema 1 records h.rising) h.rows).answer in
-          let fronts = subst (AreFronts schema records) (sym c.as_slice.ensures.value) h.fronts in
+          let made_of : AreRecordsOf schema c.in_ok-rows.rows c.args.self.count c.args.self.fronts records = record { long = h.lengths; kept = h.fronts; stamps = ap (λ (s : SlotShape). s.stamps) made.1 ∙ c.args.self.slots.stamps; many = sym h.count } in
           fails _ _ _ c.from_residual-in_err-alternates.ensures.1
-          (c.in_err-alternates.ensures.builds.built honest made.2 records h.lengths fronts c.in_ok-rows.rows.heap c.in_ok-rows.rows.prime made.0).no_damage;
+          (c.in_err-alternates.ensures.builds.built honest made.2 records made_of made.0).no_damage;
       made = no_answer _ _ _ c.from_residual-in_err-alternates.ensures.1;
       keeps = record {
         cause = handed_on _ _ _ c.from_residual-in_err-alternates.ensures.1 (cause_since g.P.Pages.shown laws start mid late first _ keeps.cause);
@@ -75,8 +76,8 @@ returns-in-None g c =
           let rows = rows_of schema records in
           let hb = g.met.P.Pages.writes_honestly mid late keeps.step honest in
           let made = (c.in_ok-rows.ensures.finishes.finished hb sound schema rows (rows_rise_of schema 1 records h.rising) h.rows).answer in
-          let fronts = subst (AreFronts schema records) (sym c.as_slice.ensures.value) h.fronts in
-          let found = (c.in_ok-alternates.ensures.builds.built honest made.2 records h.lengths fronts heap prime made.0).answer in
+          let made_of : AreRecordsOf schema c.in_ok-rows.rows c.args.self.count c.args.self.fronts records = record { long = h.lengths; kept = h.fronts; stamps = ap (λ (s : SlotShape). s.stamps) made.1 ∙ c.args.self.slots.stamps; many = sym h.count } in
+          let found = (c.in_ok-alternates.ensures.builds.built honest made.2 records made_of made.0).answer in
           let never = subst (EndsAlternates schema rows heap prime live (IsTrue (g.P.Pages.shown.state late).is_sound)) c.in-None.is found in
           record {
             answer = λ accepted.
@@ -107,8 +108,8 @@ returns-in_err-opened g c =
           let rows = rows_of schema records in
           let hb = g.met.P.Pages.writes_honestly mid late keeps.step honest in
           let made = (c.in_ok-rows.ensures.finishes.finished hb sound schema rows (rows_rise_of schema 1 records h.rising) h.rows).answer in
-          let fronts = subst (AreFronts schema records) (sym c.as_slice.ensures.value) h.fronts in
-          let found = (c.in_ok-alternates.ensures.builds.built honest made.2 records h.lengths fronts heap prime made.0).answer in
+          let made_of : AreRecordsOf schema c.in_ok-rows.rows c.args.self.count c.args.self.fronts records = record { long = h.lengths; kept = h.fronts; stamps = ap (λ (s : SlotShape). s.stamps) made.1 ∙ c.args.self.slots.stamps; many = sym h.count } in
+          let found = (c.in_ok-alternates.ensures.builds.built honest made.2 records made_of made.0).answer in
           let stand = subst (EndsAlternates schema rows heap prime live (IsTrue (g.P.Pages.shown.state late).is_sound)) c.in-Some.is found in
           let number : next ≡ length records + 1 = ap (λ (n : ℕ). n + 1) h.count in
           let all : are_rows schema next rows ≡ true = rows_sound schema next rows (each_is_row schema 1 records next h.is_schema (omega arith) h.lengths (omega (arith, number))) (rows_rise_of schema 1 records h.rising) stand.1 in
@@ -142,8 +143,8 @@ returns g c =
           let rows = rows_of schema records in
           let hb = g.met.P.Pages.writes_honestly mid late keeps.step honest in
           let made = (c.in_ok-rows.ensures.finishes.finished hb sound schema rows (rows_rise_of schema 1 records h.rising) h.rows).answer in
-          let fronts = subst (AreFronts schema records) (sym c.as_slice.ensures.value) h.fronts in
-          let found = (c.in_ok-alternates.ensures.builds.built honest made.2 records h.lengths fronts heap prime made.0).answer in
+          let made_of : AreRecordsOf schema c.in_ok-rows.rows c.args.self.count c.args.self.fronts records = record { long = h.lengths; kept = h.fronts; stamps = ap (λ (s : SlotShape). s.stamps) made.1 ∙ c.args.self.slots.stamps; many = sym h.count } in
+          let found = (c.in_ok-alternates.ensures.builds.built honest made.2 records made_of made.0).answer in
           let stand = subst (EndsAlternates schema rows heap prime live (IsTrue (g.P.Pages.shown.state late).is_sound)) c.in-Some.is found in
           let number : next ≡ length records + 1 = ap (λ (n : ℕ). n + 1) h.count in
           let all : are_rows schema next rows ≡ true = rows_sound schema next rows (each_is_row schema 1 records next h.is_schema (omega arith) h.lengths (omega (arith, number))) (rows_rise_of schema 1 records h.rising) stand.1 in

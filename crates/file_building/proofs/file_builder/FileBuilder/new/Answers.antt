@@ -12,7 +12,7 @@ returns c = record {
     rising = tt;
     lengths = tt;
     rows = c.new.ensures.begun c.copy.result pages free;
-    fronts = subst (AreFronts c.copy.result []) (sym c.new-2.ensures.items) (no_fronts c.copy.result);
+    fronts = λ all. subst (AreFronts c.copy.result []) (sym c.new-2.ensures) (no_fronts c.copy.result);
     last = c.new-3.ensures;
     count = refl;
   };

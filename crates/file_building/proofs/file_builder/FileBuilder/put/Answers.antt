@@ -1,5 +1,5 @@
 use Rattle.std.proofs.Common.{◌≡◌, ◌+◌, ℕ, List, [], ◌∷◌, ◌++◌, length, take, refl, ap, sym, subst, ◌∙◌, arith, length-append, length-take-le}
-use Rattle.std.specs.Prelude.{is_ok, nat_le, if◌then◌else◌}
+use Rattle.std.specs.Prelude.{nat_le}
 use Rattle.std.proofs.lemmas.Bool.{and_from, le-leb}
 use Rattle.tree_search.proofs.AnswerLemmas.{fails}
 use Rattle.indexed_file.specs.Change.{new_row}
@@ -8,7 +8,6 @@ use Rattle.file_building.specs.Written.{rows_of}
 use Rattle.file_building.specs.Rows.{HasRowsSoFar}
 use Rattle.file_building.specs.Entries.{AreFronts}
 use Rattle.file_building.proofs.StepLemmas.{handed_on}
-use Rattle.file_building.proofs.BuiltLemmas.{was_ok}
 use Rattle.file_building.proofs.EntryLemmas.{front_more}
 use Rattle.file_building.proofs.WrittenLemmas.{rows_more}
 use Rattle.file_building.proofs.RecordLemmas.{last_of_more, lengths_more}
@@ -38,10 +37,7 @@ returns g c =
     let value = sym c.value-value.ensures.value in
     let stamps : stored schema row ≡ c.as_slice.result.now ++ bytes = ap (λ (bs : List ℕ). bs ++ bytes) (sym (c.as_slice.ensures.value ∙ c.new_stamps-stamps.ensures.stamps.are)) in
     let least : c.from-least.result ≡ schema.least = c.from-least.ensures ∙ c.least.ensures.least in
-    let ok = was_ok (is_ok c.extend_from_slice.result) c.is_err.result c.is_err.ensures.negation c.if-is_err.false in
-    let front : c.extend_from_slice.new.self.items ≡ old.fronts.items ++ take schema.least bytes = c.extend_from_slice.ensures.items
-    ∙ ap (λ b. if b then old.fronts.items ++ take c.from-least.result bytes else old.fronts.items) ok
-    ∙ ap (λ (n : ℕ). old.fronts.items ++ take n bytes) least in
+    let kept = c.push-2.ensures in
     let enough = c.requires.least in
     let fits = and_from (nat_le schema.least (length bytes)) (nat_le (length bytes) schema.greatest) (le-leb _ _ c.requires.least) (le-leb _ _ c.requires.greatest) in
     record {
@@ -57,7 +53,8 @@ returns g c =
                 rising = rise;
                 lengths = lengths_more schema records bytes h.lengths fits;
                 rows = subst (HasRowsSoFar schema c.push.new.self after) (sym rows) made.0;
-                fronts = subst (AreFronts schema (records ++ bytes ∷ [])) (sym front) (front_more schema records old.fronts.items bytes h.fronts (length-take-le schema.least bytes enough));
+                fronts = λ all. (let front = kept.kept all ∙ ap (λ (n : ℕ). old.fronts.bytes.items ++ take n bytes) least in
+                    subst (AreFronts schema (records ++ bytes ∷ [])) (sym front) (front_more schema records old.fronts.bytes.items bytes (h.fronts (kept.were all)) (length-take-le schema.least bytes enough)));
                 last = c.extract-self.ensures ∙ sym (last_of_more schema records bytes);
                 count = number ∙ omega (arith, length-append records (bytes ∷ []));
               },
