@@ -23,7 +23,7 @@ use Rattle.record_loading.specs.declared.end.LoadEnd.TheVariants.{Opened}
 use Rattle.record_loading.specs.declared.options.LoadOptions.{LoadOptions}
 use Rattle.record_loading.specs.LineRecords.{BeginsWithRecords, IsWrongLine}
 use Rattle.record_loading.specs.Loaded.{LeavesFile}
-use Rattle.record_loading.specs.Loading.{Listing, LinesLeave, IsPassedUpTo, source_to_load, listing_by}
+use Rattle.record_loading.specs.Loading.{Listing, LinesLeave, IsPassedUpTo, load_text, listing_by}
 use Rattle.record_loading.specs.Passing.{LoadSource, behind_lines, lines_form}
 use Rattle.record_loading.proofs.PassedLemmas.{none_passed}
 use Rattle.record_loading.proofs.RisingWriteLemmas.{new_with, place_after, all_written}
@@ -34,9 +34,9 @@ new_file_of schema = new_with schema empty_file (replicate schema.greatest 32)
 
 -- where the lines of records end, which a new file accepts
 module _ (schema : Schema) (form : Form) (text : List ℕ) (options : LoadOptions) (lines : List ℕ) (text_is : text ≡ form_header form ++ lines) (records : List (List ℕ)) (rest : List ℕ)
-    (begins : BeginsWithRecords schema (lines_form (source_to_load form text options)) (behind_lines options.skip lines) records rest) (accepted : AreAccepted schema records empty_file) where
+    (begins : BeginsWithRecords schema (lines_form (load_text form text options)) (behind_lines options.skip lines) records rest) (accepted : AreAccepted schema records empty_file) where
   abbrev source : LoadSource
-  source = source_to_load form text options
+  source = load_text form text options
 
   abbrev list : Listing
   list = listing_by form text options []

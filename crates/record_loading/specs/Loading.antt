@@ -40,8 +40,8 @@ pub record Listing : Type 0 where
   pub told : List ToldLine
 
 -- a text in a form, of which these lines are to be loaded
-abbrev pub source_to_load : Form → List ℕ → LoadOptions → LoadSource
-source_to_load form text options = record { form = form; text = text; options = options }
+abbrev pub load_text : Form → List ℕ → LoadOptions → LoadSource
+load_text form text options = record { form = form; text = text; options = options }
 
 -- what a load is asked to do: to load these lines, into the file of a name and a schema
 pub record AskedLoad : Type 0 where
@@ -53,7 +53,7 @@ pub record AskedLoad : Type 0 where
 -- so of a text in a form
 abbrev pub asked_load : (name : List ℕ) → Schema → Load → Form → (text : List ℕ) → LoadOptions → AskedLoad
 asked_load name schema load form text options =
-    record { name = name; schema = schema; load = load; source = source_to_load form text options }
+    record { name = name; schema = schema; load = load; source = load_text form text options }
 
 -- its lines, of which these were told as rejected
 abbrev pub asked_lines : AskedLoad → (told : List ToldLine) → Listing
@@ -61,7 +61,7 @@ asked_lines asked told = record { source = asked.source; told = told }
 
 -- so of such a text
 abbrev pub listing_by : Form → List ℕ → LoadOptions → (told : List ToldLine) → Listing
-listing_by form text options told = record { source = source_to_load form text options; told = told }
+listing_by form text options told = record { source = load_text form text options; told = told }
 
 -- no line is skipped, the first that is rejected ends a load, no record is replaced, no value filled up,
 -- nothing is held for entries, and nothing sorted

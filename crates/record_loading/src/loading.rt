@@ -6,7 +6,7 @@ ghost use Rattle.deck_runner.specs.Beginning.{IsUntouched};
 ghost use Rattle.record_text.specs.Lines.{form_header};
 ghost use Rattle.record_text.specs.Whole.{IsWholeForm};
 ghost use Rattle.record_listing.specs.Listing.{HasShutUnit, TrueFor};
-ghost use Rattle.record_loading.specs.Loading.{source_to_load, asked_load, LoadsOver, OthersStay};
+ghost use Rattle.record_loading.specs.Loading.{load_text, asked_load, LoadsOver, OthersStay};
 ghost use Rattle.record_loading.specs.Going.{HasAreaFor, LoadsUnitTold};
 ghost use Rattle.record_loading.specs.Real.{AllStayReal};
 
@@ -57,7 +57,7 @@ fn load_attached<L: Library, P: Progress, R: RejectLog>(
     requires area { HasAreaFor form.now schema.now area.old }
     requires header { header.now ≡ form_header form.now }
     ensures loads { LoadsUnitTold R.tells rejects.old rejects.new L.shown lib.old lib.new schema.now mode
-        (source_to_load form.now text.now options) area.old result }
+        (load_text form.now text.now options) area.old result }
     ensures only { OnlyAt 0 (L.shown.world lib.old) (L.shown.world lib.new) }
     ensures keeps { Keeps L.shown lib.old lib.new }
 {

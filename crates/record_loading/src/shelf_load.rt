@@ -1,7 +1,7 @@
 //! The loading.
 ghost use Rattle.std.specs.Prelude.{◌≡◌, ◌≤◌, [], IsTrue, None, IfOk, OnOk, OnErr, ⊤};
 ghost use Rattle.record_text.specs.Whole.{IsWholeForm};
-ghost use Rattle.record_loading.specs.Loading.{listing, source_to_load, asked_load};
+ghost use Rattle.record_loading.specs.Loading.{listing, load_text, asked_load};
 ghost use Rattle.shelf_run.specs.Files.{reads_of};
 ghost use Rattle.record_loading.specs.SortedLoad.{LoadsTextInto};
 ghost use Rattle.record_loading.specs.Loaded.{EndsLoad, LoadsInto, LoadsTold, LoadsAnyhow, TellsIfThere};
@@ -92,7 +92,7 @@ fn load_again<S: Shelf, P: Progress, R: RejectLog>(
     requires limit { 16 ≤ limit }
     requires whole { IsWholeForm form.now schema.now.greatest }
     ensures { LoadsAgain R.tells rejects.old rejects.new name.bytes schema.now
-        (source_to_load form.now text.now options) (S.state shelf) (S.state result.0) result.1 }
+        (load_text form.now text.now options) (S.state shelf) (S.state result.0) result.1 }
 {
     let (shelf, end) = load_over(
         alloc,

@@ -6,7 +6,7 @@ ghost use Rattle.verbs.specs.Fits.{MayPerform};
 ghost use Rattle.verbs.specs.Performed.{in_memory};
 ghost use Rattle.record_loading.specs.Passing.{lines_end, ends_lines};
 ghost use Rattle.record_loading.specs.Replacing.{RewritesRecordIn};
-ghost use Rattle.record_loading.specs.Loading.{source_to_load};
+ghost use Rattle.record_loading.specs.Loading.{load_text};
 ghost use Rattle.record_loading.specs.Going.{TakesLines, PassesLineOf, WritesTold};
 
 use crate::end::LinesEnd;
@@ -144,7 +144,7 @@ fn write_lines<L: Library, P: Progress, R: RejectLog>(
 ) -> LinesEnd
     requires takes { TakesLines L.shown form.now least (in_memory connector.old lib.old area.old) }
     requires lines { text.now ≡ form_header form.now ++ lines.now }
-    ensures { WritesTold R.tells rejects.old rejects.new L.shown (source_to_load form.now text.now options)
+    ensures { WritesTold R.tells rejects.old rejects.new L.shown (load_text form.now text.now options)
         connector.old lib.old area.old connector.new lib.new result }
 {
     let mut rest = behind_lines(lines, options.skip);
@@ -203,7 +203,7 @@ pub fn write_listing<L: Library, P: Progress, R: RejectLog>(
 ) -> LinesEnd
     requires takes { TakesLines L.shown form.now least (in_memory connector.old lib.old area.old) }
     requires header { header.now ≡ form_header form.now }
-    ensures { WritesTold R.tells rejects.old rejects.new L.shown (source_to_load form.now text.now options)
+    ensures { WritesTold R.tells rejects.old rejects.new L.shown (load_text form.now text.now options)
         connector.old lib.old area.old connector.new lib.new result }
 {
     let Some(lines) = behind_header(text, header) else {

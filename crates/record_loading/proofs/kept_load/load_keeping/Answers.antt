@@ -1,5 +1,5 @@
 use Rattle.std.proofs.lemmas.Result.{IfOk-weaker}
-use Rattle.record_loading.specs.Loading.{source_to_load}
+use Rattle.record_loading.specs.Loading.{load_text}
 use Rattle.record_loading.specs.Loaded.{TellsLoadEnd}
 use Rattle.record_loading.specs.SortedLoad.{EndsTextLoad}
 use Rattle.record_loading.specs.KeptLoad.{EndsKeeping}
@@ -16,8 +16,8 @@ returns-clause-loads g c =
     let is = c.load_lines_on_shelf.ensures.loads in
     record {
       ends = IfOk-weaker c.load_lines_on_shelf.result.1
-          (λ end. TellsLoadEnd g.R.RejectLog.tells before after (λ told. EndsTextLoad c.args.name.bytes c.args.schema.now c.args.load (source_to_load c.args.form.now c.args.text.now c.args.options) told) old end new)
-          (λ end. EndsKeeping (kept before) (kept after) c.args.name.bytes c.args.schema.now c.args.load (source_to_load c.args.form.now c.args.text.now c.args.options) old end new)
+          (λ end. TellsLoadEnd g.R.RejectLog.tells before after (λ told. EndsTextLoad c.args.name.bytes c.args.schema.now c.args.load (load_text c.args.form.now c.args.text.now c.args.options) told) old end new)
+          (λ end. EndsKeeping (kept before) (kept after) c.args.name.bytes c.args.schema.now c.args.load (load_text c.args.form.now c.args.text.now c.args.options) old end new)
           (λ end so. (so.0, told_kept g.R.RejectLog.tells kept c.keeps_told.ensures so.0 before after so.1, so.2)) is.ends;
       nothing = is.nothing;
       others = is.others;
