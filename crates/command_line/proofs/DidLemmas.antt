@@ -24,6 +24,7 @@ use Rattle.file_commands.specs.Schema.{IsSchemaDone, IsSchemaFault}
 use Rattle.file_commands.specs.declared.listing.Bounds.{Bounds}
 use Rattle.command_support.specs.DeckFile.{IsDeckFault}
 use Rattle.command_support.specs.Front.{DoesBy}
+use Rattle.file_commands.specs.Counted.{CountsFileAt}
 use Rattle.file_commands.specs.Verdicts.{ChecksFile}
 use Rattle.file_reports.specs.declared.statistics_listing.FileStatisticsEnd.{FileStatisticsEnd}
 use Rattle.record_loading.specs.declared.shelf_end.ShelfEnd.{ShelfEnd}
@@ -222,20 +223,20 @@ module _ (words : List Text) where
   did_explain kind number asked (Err f) is (inr output) = did_fail words f (ap status_of output)
 
   -- so of what is done by calls
-  pub did_check : {W : Type 0} (file : Text) (quiet : Bool) → AskCheck words (file ∷ []) quiet → (contents : W → Option (List ℕ)) (old new : W) (calls : List Call) (result : Result Outcome CommandFault)
-      → DoesBy (ChecksFile file contents old new) result calls → Did words result
-  did_check file quiet asked contents old new calls (Ok outcome) does = subst (λ (o : Outcome). Did words (Ok o)) (sym does.right.1) (file, quiet, asked)
-  did_check file quiet asked contents old new calls (Err fault) does = did_fail words fault does.fault
+  pub did_check : {W : Type 0} (disk : Unseen) (file : Text) (quiet : Bool) → AskCheck words (file ∷ []) quiet → (contents : W → Option (List ℕ)) (old new : W) (calls : List Call) (result : Result Outcome CommandFault)
+      → DoesBy (ChecksFile disk file contents old new) result calls → Did words result
+  did_check disk file quiet asked contents old new calls (Ok outcome) does = subst (λ (o : Outcome). Did words (Ok o)) (sym does.right.1) (file, quiet, asked)
+  did_check disk file quiet asked contents old new calls (Err fault) does = did_fail words fault does.fault
 
   pub did_checks : (files : List Text) (quiet : Bool) → AskCheck words files quiet → (P : WorstCheck → Type 0) (result : Result Outcome CommandFault)
       → IfOk result (λ outcome. (worst : WorstCheck) × (outcome ≡ CheckedAll worst) × P worst) → IfErr result (λ fault. status_of fault ≡ 4) → Did words result
   did_checks files quiet asked P (Ok outcome) is four = subst (λ (o : Outcome). Did words (Ok o)) (sym is.1) (files, quiet, asked)
   did_checks files quiet asked P (Err fault) is four = did_fail words fault four
 
-  pub did_count : (path : Text) → AskStat words path → (P : FileStatisticsEnd → Type 0) (result : Result Outcome CommandFault)
-      → IfOk result (λ outcome. (end : FileStatisticsEnd) × (outcome ≡ Counted end) × P end) → IfErr result (λ fault. status_of fault ≡ 4) → Did words result
-  did_count path asked P (Ok outcome) is four = subst (λ (o : Outcome). Did words (Ok o)) (sym is.1) (path, asked)
-  did_count path asked P (Err fault) is four = did_fail words fault four
+  pub did_count : {W : Type 0} (disk : Unseen) (path : Text) → AskStat words path → (contents : W → Option (List ℕ)) (old new : W) (calls : List Call) (result : Result Outcome CommandFault)
+      → DoesBy (CountsFileAt disk path contents old new) result calls → Did words result
+  did_count disk path asked contents old new calls (Ok outcome) does = subst (λ (o : Outcome). Did words (Ok o)) (sym does.right.1) (path, asked)
+  did_count disk path asked contents old new calls (Err fault) does = did_fail words fault does.fault
 
   -- a deck was told, or is refused
   deck_refused : AskOfDeck words → (fault : CommandFault) → IsListFault fault → Did words (Err fault)

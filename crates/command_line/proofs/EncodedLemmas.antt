@@ -70,7 +70,7 @@ handed_done IsSo encoding form backslashes text made contents old new (Err fault
 
 module _ (disk : Unseen) (input : Option (List ℕ)) (path : List ℕ) (bounds : Bounds) (form : FormWords) (calls : List Call) where
   -- what was done, by what a writer has
-  checked_known : {W : Type 0} (contents : W → Option (List ℕ)) (old new : W) (outcome : Outcome) → ListsAsked input path bounds (words_of bounds form) contents old new calls outcome
+  checked_known : {W : Type 0} (contents : W → Option (List ℕ)) (old new : W) (outcome : Outcome) → ListsAsked disk input path bounds (words_of bounds form) contents old new calls outcome
       → DoesList true disk input path bounds form (contents old) (contents new) calls outcome
   checked_known contents old new (Records list) is = is
   checked_known contents old new OtherSchema is = is
@@ -79,7 +79,7 @@ module _ (disk : Unseen) (input : Option (List ℕ)) (path : List ℕ) (bounds :
   lists_known : {W : Type 0} (checked : Bool) (contents : W → Option (List ℕ)) (old new : W) (result : Result Outcome CommandFault) → ListsEitherWay checked disk input path bounds form contents old new result calls
       → IfOk result (DoesList checked disk input path bounds form (contents old) (contents new) calls)
   lists_known true contents old new result lists =
-      IfOk-weaker result (ListsAsked input path bounds (words_of bounds form) contents old new calls) (DoesList true disk input path bounds form (contents old) (contents new) calls)
+      IfOk-weaker result (ListsAsked disk input path bounds (words_of bounds form) contents old new calls) (DoesList true disk input path bounds form (contents old) (contents new) calls)
       (checked_known contents old new) lists.records
   lists_known false contents old new result lists = lists.records
 

@@ -43,21 +43,21 @@ module _ {W : Type 0} (disk : Unseen) (words : List Text) (calls : List Call) (i
   right_explained kind number asked (Err fault) is text = tt
 
   -- a file was checked
-  pub right_check : (file : Text) (quiet : Bool) → AskCheck words (file ∷ []) quiet → (result : Result Outcome CommandFault) → DoesBy (ChecksFile file contents old new) result calls → IfOk result IsRight
+  pub right_check : (file : Text) (quiet : Bool) → AskCheck words (file ∷ []) quiet → (result : Result Outcome CommandFault) → DoesBy (ChecksFile disk file contents old new) result calls → IfOk result IsRight
   right_check file quiet asked (Ok outcome) does = let done = does.right in
-      subst IsRight (sym done.1) (file, quiet, asked, subst (λ (o : Outcome). ChecksFile file contents old new calls o) done.1 done)
+      subst IsRight (sym done.1) (file, quiet, asked, subst (λ (o : Outcome). ChecksFile disk file contents old new calls o) done.1 done)
   right_check file quiet asked (Err fault) does = tt
 
   -- files were checked
   pub right_checks : (files : List Text) (quiet : Bool) → AskCheck words files quiet → (result : Result Outcome CommandFault)
-      → IfOk result (λ outcome. (worst : WorstCheck) × (outcome ≡ CheckedAll worst) × WritesVerdicts files (contents old) (contents new) calls worst) → IfOk result IsRight
+      → IfOk result (λ outcome. (worst : WorstCheck) × (outcome ≡ CheckedAll worst) × WritesVerdicts disk files (contents old) (contents new) calls worst) → IfOk result IsRight
   right_checks files quiet asked (Ok outcome) done = subst IsRight (sym done.1) (files, quiet, asked, done.2)
   right_checks files quiet asked (Err fault) done = tt
 
   -- the pages of a file were counted
-  pub right_count : (path : Text) → AskStat words path → (result : Result Outcome CommandFault) → DoesBy (CountsFileAt path contents old new) result calls → IfOk result IsRight
+  pub right_count : (path : Text) → AskStat words path → (result : Result Outcome CommandFault) → DoesBy (CountsFileAt disk path contents old new) result calls → IfOk result IsRight
   right_count path asked (Ok outcome) does = let done = does.right in
-      subst IsRight (sym done.1) (path, asked, subst (λ (o : Outcome). CountsFileAt path contents old new calls o) done.1 done)
+      subst IsRight (sym done.1) (path, asked, subst (λ (o : Outcome). CountsFileAt disk path contents old new calls o) done.1 done)
   right_count path asked (Err fault) does = tt
 
   -- the records of a file were salvaged

@@ -32,7 +32,7 @@ low_where false = omega arith
 
 low_verdict : (verdict : Verdict) → status_by verdict ≤ 1
 low_verdict (Sound records pages) = omega arith
-low_verdict (Unsound reason) = omega arith
+low_verdict (Unsound reason place) = omega arith
 
 low_list : (list : FileList) → status_of_list list ≤ 1
 low_list lists.Listed = omega arith

@@ -41,7 +41,7 @@ pub record HandsTextOver {W : Type 0} (backslashes : Backslashes) (text : List �
 abbrev pub DoesList : (checked : Bool) → Unseen → (input : Option (List ℕ)) → (path : List ℕ) → Bounds
     → FormWords → (before behind : Option (List ℕ)) → List Call → Outcome → Type 0
 DoesList true disk input path bounds form before behind calls outcome =
-    ListsAsked input path bounds (words_of bounds form) (λ known. known) before behind calls outcome
+    ListsAsked disk input path bounds (words_of bounds form) (λ known. known) before behind calls outcome
 DoesList false disk input path bounds form before behind calls outcome =
     DoesByIndex disk input path bounds (words_of bounds form) before behind calls outcome
 

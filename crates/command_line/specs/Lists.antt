@@ -4,7 +4,7 @@ use Rattle.folder_shelf.specs.Replay.{Unseen}
 use Rattle.folder_shelf.specs.Calls.{Call}
 use Rattle.command_words.specs.declared.form_words.FormWords.{FormWords}
 use Rattle.file_commands.specs.ByIndex.{ListsByIndex}
-use Rattle.file_commands.specs.Records.{ListsFile}
+use Rattle.file_commands.specs.Records.{ListsAs}
 use Rattle.file_commands.specs.declared.asked_list.Listing.{Listing}
 use Rattle.file_commands.specs.declared.listing.Bounds.{Bounds}
 use Rattle.command_support.specs.declared.fault.CommandFault.{CommandFault}
@@ -14,7 +14,7 @@ use Rattle.command_support.specs.declared.outcome.Outcome.{Outcome}
 abbrev pub ListsEitherWay : {W : Type 0} → (checked : Bool) → Unseen → (input : Option (List ℕ)) → (path : List ℕ)
     → Bounds → FormWords → (W → Option (List ℕ)) → (old new : W) → Result Outcome CommandFault → List Call → Type 0
 ListsEitherWay true disk input path bounds form contents old new result calls =
-    ListsFile input path bounds form contents old new result calls
+    ListsAs disk input path bounds form contents old new result calls
 ListsEitherWay false disk input path bounds form contents old new result calls =
     ListsByIndex disk input path bounds form contents old new result calls
 

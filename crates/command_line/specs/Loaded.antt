@@ -207,10 +207,10 @@ LoadsAsked old left input disk made deck folder asks contents out out_after outc
     old made out out_after outcome
 
 -- both over devices
-abbrev pub LoadsDeckOver : {S X I W : Type 0} → Devices S X I W → (system : S) → (aside : List Call)
+abbrev pub LoadsDeckBy : {S X I W : Type 0} → Devices S X I W → (system : S) → (aside : List Call)
     → S × Result Outcome CommandFault → StandardInput I → (bytes : List ℕ) → (path : String Global) → FormKind
     → Encoding → Loading → (out out_after : W) → Type 0
-LoadsDeckOver over system aside result input bytes path kind encoding asks out out_after =
+LoadsDeckBy over system aside result input bytes path kind encoding asks out out_after =
     LoadsBytes (over.state system) over.left input over.disk (calls_made aside (over.state result.0)) bytes path kind
     encoding asks over.contents out out_after result.1
 

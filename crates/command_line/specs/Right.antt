@@ -13,7 +13,7 @@ use Rattle.file_commands.specs.Listed.{WritesList, WritesCobol}
 use Rattle.file_commands.specs.ByIndex.{ListsRecordsByIndex, FindsOther}
 use Rattle.record_listing.specs.declared.file_list.FileList.{FileList}
 use Rattle.folder_shelf.specs.Replay.{Unseen}
-use Rattle.file_commands.specs.Records.{OfFormAndFile, ListsRecords, AgreesWith, WritesOther}
+use Rattle.file_commands.specs.Records.{ListsRecords}
 use Rattle.salvaged_records.specs.Salvaged.{outputs}
 use Rattle.file_commands.specs.Salvaged.{SalvagesFileAt}
 use Rattle.file_commands.specs.Schema.{TellsAsked, ComparesAsked}
@@ -31,25 +31,20 @@ use Rattle.command_support.specs.declared.outcome.Outcome.TheVariants.{SchemaRef
 use Rattle.command_support.specs.declared.outcome.Outcome.TheVariants.{CheckedAll, Records, InCobol, Loaded}
 use Rattle.command_support.specs.declared.outcome.Outcome.TheVariants.{Counted, OtherSchema, Salvaged, Copied}
 
--- the records that words ask for were listed: after a check of the bytes that the first page of the file
--- counts, or page after page
+-- the records that words ask for were listed, after a check of the file or without one, page after page
 abbrev pub ListsAsAsked : (checked : Bool) → {words : List Text} → Unseen → (input : Option (List ℕ))
     → AskForRecords words → List Call → (before behind : Option (List ℕ)) → FileList → Type 0
 ListsAsAsked true disk input asked calls before behind list =
-    OfFormAndFile input asked.file (words_of_list asked) calls (λ told bytes.
-    AgreesWith told.told.schema bytes × ListsRecords told.told.form bytes told.key asked.from asked.to
-    asked.first told.conditions.items before behind list)
+    ListsRecords disk input asked.file (words_of_list asked) asked.from asked.to asked.first before behind
+    calls list
 ListsAsAsked false disk input asked calls before behind list =
     ListsRecordsByIndex disk input asked.file (words_of_list asked) asked.from asked.to asked.first before
     behind calls list
 
 -- so the differences of the file from the deck whose columns they ask for
-abbrev pub DiffersAsAsked : (checked : Bool) → {words : List Text} → (input : Option (List ℕ))
+abbrev pub DiffersAsAsked : {words : List Text} → (input : Option (List ℕ))
     → AskForRecords words → List Call → (before behind : Option (List ℕ)) → Type 0
-DiffersAsAsked true input asked calls before behind =
-    OfFormAndFile input asked.file (words_of_list asked) calls (λ told bytes.
-    WritesOther told.told.schema bytes before behind)
-DiffersAsAsked false input asked calls before behind =
+DiffersAsAsked input asked calls before behind =
     FindsOther input asked.file (words_of_list asked) before behind calls
 
 -- the records that are left in a file were salvaged as words ask for it, or its differences from a deck were
@@ -75,10 +70,10 @@ module _ {W : Type 0} (disk : Unseen) (words : List Text) (calls : List Call) (i
   IsRightOf Helped = ⊤
   -- the verdict is that on the file that the words name, and its line was written
   IsRightOf (Checked verdict) = (file : Text) × (quiet : Bool) × AskCheck words (file ∷ []) quiet
-      × ChecksFile file contents old new calls (Checked verdict)
+      × ChecksFile disk file contents old new calls (Checked verdict)
   -- a line was written of each file that the words name, and this is what is worst of them
   IsRightOf (CheckedAll worst) = (files : List Text) × (quiet : Bool) × AskCheck words files quiet
-      × WritesVerdicts files (contents old) (contents new) calls worst
+      × WritesVerdicts disk files (contents old) (contents new) calls worst
   -- the lines of the schema of the file that the words name were written
   IsRightOf SchemaTold = (schema : AskForSchema words)
       × TellsAsked input schema.file schema.deck contents old new calls SchemaTold
@@ -103,7 +98,7 @@ module _ {W : Type 0} (disk : Unseen) (words : List Text) (calls : List Call) (i
   -- salvaged, and the differences were written
   IsRightOf OtherSchema =
       ((asked : AskForRecords words) × WritesIn asked.form.encoding asked.form.kind (contents old) (contents new)
-      (λ before behind. DiffersAsAsked asked.checked input asked calls before behind))
+      (λ before behind. DiffersAsAsked input asked calls before behind))
       ⊎ ((asked : AskForSalvage words) × WritesIn asked.form.encoding asked.form.kind (contents old) (contents new)
       (λ before behind. SalvagesAsAsked input asked calls before behind OtherSchema))
   -- the deck that the words name was written as a program
@@ -111,7 +106,7 @@ module _ {W : Type 0} (disk : Unseen) (words : List Text) (calls : List Call) (i
       × OfNamedDeck calls input deck (λ bytes. WritesCobol bytes fixed (contents old) (contents new))
   -- what the file that the words name has was counted and written, or it is told why not
   IsRightOf (Counted end) = (path : Text) × AskStat words path
-      × CountsFileAt path contents old new calls (Counted end)
+      × CountsFileAt disk path contents old new calls (Counted end)
   -- the records that are left in the file that the words name were written, or it is told why not
   IsRightOf (Salvaged end) = (asked : AskForSalvage words)
       × WritesIn asked.form.encoding asked.form.kind (contents old) (contents new)

@@ -2,7 +2,7 @@
 //! for.
 ghost use Rattle.std.specs.Prelude.{◌≡◌, ◌≢◌, [], IfErr};
 ghost use Rattle.record_listing.specs.ByPath.{ReadsAside};
-ghost use Rattle.command_support.specs.Front.{ReadsOnly};
+ghost use Rattle.command_support.specs.Front.{ReadBy};
 ghost use Rattle.command_support.specs.Status.{status_of};
 ghost use Rattle.command_line.specs.Encoded.{ListsIn, SalvagesIn};
 ghost use Rattle.command_line.specs.Lists.{ListsAsAsked};
@@ -33,7 +33,6 @@ fn list<S: System + Drop, D: Disk, I: Read, P: Progress, W: Write>(
         listing.entry W.contents out.old out.new) }
     ensures untouched { IfErr result.1 (λ fault. status_of fault ≢ 4 → out.new ≡ out.old) }
 {
-    let mut system = system;
     let checked = listing.checked;
     if checked {
         let Listing {
@@ -42,8 +41,9 @@ fn list<S: System + Drop, D: Disk, I: Read, P: Progress, W: Write>(
             form,
             checked: _,
         } = listing;
-        let listed = list_checked(&mut system, alloc, file, bounds, form, input, progress, out);
-        return (system, listed);
+        return list_checked::<S, D, _, P, W>(
+            system, alloc, file, bounds, form, input, progress, out,
+        );
     }
     list_records::<S, D, _, P, W>(system, aside, alloc, listing, input, progress, out)
 }
@@ -114,7 +114,7 @@ fn salvage_in_utf_8<S: System, I: Read, E: Write, W: Write>(
     out: &mut W,
 ) -> Result<Outcome, CommandFault>
     requires encoding { asked.form.encoding.now ≡ codes "utf-8" }
-    ensures { ReadsOnly S.state system.old system.new (SalvagesIn (I.remaining input.old) asked.entry
+    ensures { ReadBy S.state system.old system.new (SalvagesIn (I.remaining input.old) asked.entry
         E.contents err.old err.new W.contents out.old out.new result) }
 {
     let mut text = Vec::new(alloc);
@@ -138,7 +138,7 @@ pub fn salvage_encoded<S: System, I: Read, E: Write, W: Write>(
     err: &mut E,
     out: &mut W,
 ) -> Result<Outcome, CommandFault>
-    ensures { ReadsOnly S.state system.old system.new (SalvagesIn (I.remaining input.old) asked.entry
+    ensures { ReadBy S.state system.old system.new (SalvagesIn (I.remaining input.old) asked.entry
         E.contents err.old err.new W.contents out.old out.new result) }
 {
     match encoding_of(asked.form.encoding) {

@@ -2,7 +2,7 @@
 ghost use Rattle.std.specs.Prelude.{◌≡◌, [], true, false, codes, string_bytes, IfErr};
 ghost use Rattle.record_text.specs.Whole.{IsWholeForm};
 ghost use Rattle.command_line.specs.Loaded.{load_of, options_of, load_source, LoadsDescribed, IsShelfFault};
-ghost use Rattle.command_line.specs.Loaded.{LoadsDeckOver};
+ghost use Rattle.command_line.specs.Loaded.{LoadsDeckBy};
 
 use crate::devices::{Over, Seen};
 use crate::encoded_text::read_encoded;
@@ -150,7 +150,7 @@ pub fn load_deck<
     out: &mut W,
 ) -> (S, Result<Outcome, CommandFault>)
     requires none_aside { aside.old.calls ≡ [] }
-    ensures { LoadsDeckOver ⟦<Over<S, D, I, W> as Seen>⟧.devices system aside.new.calls result input.old
+    ensures { LoadsDeckBy ⟦<Over<S, D, I, W> as Seen>⟧.devices system aside.new.calls result input.old
         bytes.now folder kind encoding asked.entry out.old out.new }
 {
     let mut system = system;

@@ -88,8 +88,8 @@ abbrev pub word_in : Option (Bor (List ℕ)) → Option (List ℕ)
 word_in word = option_map (λ text. text.now) word
 
 -- a system was asked by calls that only read, and by no others, and this is so of them
-abbrev pub ReadsOnly : {S : Type 0} → (state : S → SystemState) → (old new : S) → (IsSo : List Call → Type 0) → Type 0
-ReadsOnly state old new IsSo = ByReads IsSo (state old) (state new)
+abbrev pub ReadBy : {S : Type 0} → (state : S → SystemState) → (old new : S) → (IsSo : List Call → Type 0) → Type 0
+ReadBy state old new IsSo = ByReads IsSo (state old) (state new)
 
 -- a value of which this is so; or the input, the output or memory failed
 abbrev pub GivesSuch : {X : Type 0} → (IsSo : X → Type 0) → Result X CommandFault → Type 0

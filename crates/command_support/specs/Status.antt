@@ -56,7 +56,7 @@ status_of Memory = 4
 -- the exit status that tells a verdict
 abbrev pub status_by : Verdict → ℕ
 status_by (Sound records pages) = 0
-status_by (Unsound reason) = 1
+status_by (Unsound reason place) = 1
 
 -- the exit status that tells what became of the list of a file
 abbrev pub status_of_list : FileList → ℕ

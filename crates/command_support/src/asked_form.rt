@@ -6,7 +6,7 @@ ghost use Rattle.command_support.specs.AskedForm.{IsFormWord, IsWrittenAs, Gives
 ghost use Rattle.command_support.specs.AskedForm.{ComesOfAskedForm, ComesOfFormAlone, TellsFormFault, TellsDeckWanted};
 ghost use Rattle.command_support.specs.Conditions.{texts_of};
 ghost use Rattle.command_support.specs.Forms.{WantsOnlyMemory};
-ghost use Rattle.command_support.specs.Front.{ReadsOnly};
+ghost use Rattle.command_support.specs.Front.{ReadBy};
 
 use crate::condition_fault::ConditionFault;
 use crate::conditions::conditions_of;
@@ -76,7 +76,7 @@ fn form_where<S: System, I: Read>(
     input: &mut I,
 ) -> Result<AskedForm, CommandFault>
     requires { IsFormWord asked.kind.now }
-    ensures { ReadsOnly S.state system.old system.new (GivesFormOfFile (I.remaining input.old) deck.now name.now
+    ensures { ReadBy S.state system.old system.new (GivesFormOfFile (I.remaining input.old) deck.now name.now
         (list_words asked.entry key.now words.now) result) }
 {
     let deck = match deck_at(system, alloc, deck, input) {

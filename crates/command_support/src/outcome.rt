@@ -172,7 +172,7 @@ pub fn status_by_verdict(verdict: Verdict) -> u8
 {
     match verdict {
         Verdict::Sound { .. } => 0,
-        Verdict::Unsound(_) => 1,
+        Verdict::Unsound(..) => 1,
     }
 }
 

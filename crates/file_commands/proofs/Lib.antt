@@ -1,3 +1,4 @@
+pub mod SinceLemmas
 pub mod SchemaLemmas
 pub mod ListLemmas
 pub mod VerdictLemmas
@@ -5,3 +6,5 @@ pub mod RecordsLemmas
 pub mod DifferingLemmas
 pub mod ByIndexLemmas
 pub mod SalvageLemmas
+mod ByPagesLemmas
+mod CountedLemmas

@@ -13,6 +13,7 @@ use Rattle.record_listing.specs.declared.end.ListEnd.TheVariants.{Absent, Unsoun
 use Rattle.record_listing.specs.declared.end.ListFault.{ListFault}
 use Rattle.file_checker.specs.Sound.{IsRight}
 use Rattle.file_checker.specs.declared.verdict.Verdict.TheVariants.{Unsound as IsRefused}
+use Rattle.pages.specs.declared.fault_place.FaultPlace.{FaultPlace}
 use Rattle.record_listing.specs.declared.file_list.FileList.{FileList}
 use Rattle.record_listing.specs.declared.file_list.FileList.TheVariants.{Listed, NoKey, Unsound}
 use Rattle.folder_shelf.specs.Replay.{Unseen}
@@ -41,7 +42,8 @@ StandsForNone disk path reads = IsTrue (are_answers_of disk.first reads)
 -- check tells
 abbrev pub TellsReasonBy : (path : List ℕ) → (calls : List Call) → Outcome → Type 0
 TellsReasonBy path calls (Records (Unsound reason)) =
-    (bytes : List ℕ) × (calls ≡ counted_calls path bytes) × IsRight bytes (IsRefused reason)
+    (bytes : List ℕ) × (calls ≡ counted_calls path bytes)
+    × ((place : FaultPlace) × IsRight bytes (IsRefused reason place))
 TellsReasonBy path calls outcome = ⊥
 
 -- so it was told; or the input or memory failed
@@ -90,7 +92,8 @@ EndsByIndex disk path form asked reads later before behind NoKey =
     (later ≡ []) × ListsAtPath disk path form asked before behind (Ok HasNoKey) reads
 EndsByIndex disk path form asked reads later before behind (Unsound reason) =
     StandsForNone disk path reads
-    × ((bytes : List ℕ) × (later ≡ counted_calls path bytes) × IsRight bytes (IsRefused reason))
+    × ((bytes : List ℕ) × (later ≡ counted_calls path bytes)
+    × ((place : FaultPlace) × IsRight bytes (IsRefused reason place)))
 
 -- the file of a path was listed by these calls, and so this was done; or the input, the output or memory
 -- failed

@@ -1,3 +1,4 @@
+pub mod Since
 pub mod Records
 pub mod Listed
 pub mod Verdicts
@@ -6,3 +7,4 @@ pub mod Counted
 pub mod Salvaged
 pub mod Differing
 pub mod ByIndex
+pub mod ByPages

@@ -1,5 +1,6 @@
 -- What is listed of the records of a file. All of this is ours.
-use Rattle.std.specs.Prelude.{◌≡◌, ◌≢◌, ℕ, Bool, true, false, List, [], Option, Some, None, option_map}
+use Rattle.std.specs.Prelude.{◌≡◌, ◌≢◌, ℕ, Bool, true, false, List, [], ◌∷◌, ◌++◌, Option, Some, None}
+use Rattle.std.specs.Prelude.{option_map}
 use Rattle.std.specs.Prelude.{Result, Ok, IfOk, IfErr, ⊤}
 use Rattle.std.specs.Option.{unwrap_or}
 use Rattle.record_layout.specs.Schema.{Schema}
@@ -10,15 +11,19 @@ use Rattle.file_reports.specs.declared.comparing.Comparison.TheVariants.{Same, D
 use Rattle.record_listing.specs.declared.asked.Asked.{Asked}
 use Rattle.record_listing.specs.declared.condition.Condition.{Condition}
 use Rattle.record_text.specs.declared.form.Form.{Form}
-use Rattle.record_listing.specs.FileList.{EndsWithIn}
+use Rattle.record_listing.specs.FileList.{EndsChecked}
 use Rattle.record_listing.specs.declared.file_list.FileList.{FileList}
+use Rattle.record_listing.specs.declared.file_list.FileList.TheVariants.{Unsound}
+use Rattle.file_checker.specs.declared.verdict.Reason.{Reason}
 use Rattle.record_listing.specs.declared.end.ListFault.{ListFault}
 use Rattle.command_support.specs.Status.{status_of}
 use Rattle.command_support.specs.declared.fault.CommandFault.{CommandFault}
 use Rattle.command_words.specs.declared.form_words.FormWords.{FormWords}
-use Rattle.folder_shelf.specs.Calls.{Call}
+use Rattle.folder_shelf.specs.Calls.{Call, taken_shared}
+use Rattle.folder_shelf.specs.Replay.{Unseen}
+use Rattle.file_commands.specs.ByPages.{OfFileAtPath}
 use Rattle.command_support.specs.Bound.{unescaped}
-use Rattle.command_support.specs.Front.{OfCountedFile, word_in}
+use Rattle.command_support.specs.Front.{OfFirstPage, word_in}
 use Rattle.command_support.specs.AskedForm.{ListWords, list_words, IsAskedFormBy, IsListRefused}
 use Rattle.command_support.specs.declared.asked_form.AskedForm.{AskedForm}
 use Rattle.file_commands.specs.declared.listing.Bounds.{Bounds}
@@ -35,12 +40,6 @@ pub record IsAskedFor (key : ℕ) (from to : Option (List ℕ)) (first : ℕ) (c
   pub to_is : option_map (λ value. value.items) asked.to ≡ option_map unescaped to
   pub first_is : asked.first ≡ first
   pub conditions_are : asked.conditions.items ≡ conditions
-
--- the list of these bytes in a form ended so
-abbrev pub ListsRecords : Form → List ℕ → (key : ℕ) (from to : Option (List ℕ)) (first : ℕ)
-    → List Condition → (before behind : Option (List ℕ)) → FileList → Type 0
-ListsRecords form bytes key from to first conditions before behind list = (asked : Asked)
-    × IsAskedFor key from to first conditions asked × EndsWithIn form bytes asked before behind list
 
 -- this is asked for by the words of a command line, which ask for the key of this number and for these
 -- conditions
@@ -69,26 +68,54 @@ WritesOther None bytes before behind = ⊥
 WritesOther (Some deck) bytes before behind =
     TellsDifferences deck before behind (read_of_file bytes) (Ok Different)
 
--- the form is the one that is asked for, and so are the key and the conditions, and behind the calls by
--- which their deck was read, if one is asked for, others gave the bytes that the first page of the file of
--- a path counts, of which this is so
-abbrev pub OfFormAndFile : (input : Option (List ℕ)) → (path : List ℕ) → ListWords → List Call
-    → (IsSo : AskedForm → List ℕ → Type 0) → Type 0
-OfFormAndFile input path asked calls IsSo = (told : AskedForm) × (before : List Call)
-    × IsAskedFormBy before input asked told × OfCountedFile path before calls (IsSo told)
+-- a list of the file of a path by these reads, after a check of it, ended so: where each answer was that of
+-- the files of a disk, the one at the path began with this page; and of one that is not sound nothing was
+-- written
+pub record ListsPath (disk : Unseen) (path page : List ℕ) (form : Form) (asked : Asked)
+    (before behind : Option (List ℕ)) (result : Result FileList ListFault) (reads : List Call) : Type 0 where
+  pub ends : OfFileAtPath disk path reads (λ bytes. EndsChecked page bytes form asked before behind result)
+  pub unlisted : (reason : Reason) → result ≡ Ok (Unsound reason) → behind ≡ before
+
+-- so by a writer
+abbrev pub ListsTo : {W : Type 0} → Unseen → (path page : List ℕ) → Form → Asked → (W → Option (List ℕ)) → (old new : W)
+    → Result FileList ListFault → (reads : List Call) → Type 0
+ListsTo disk path page form asked contents old new result reads =
+    ListsPath disk path page form asked (contents old) (contents new) result reads
+
+-- the form is the one that is asked for, and so are the key and the conditions; behind the calls by which
+-- their deck was read, if one is asked for, one gave the first page of the file of a path, which agrees with
+-- that deck, and then these reads were made
+pub record OfFormAndFile (input : Option (List ℕ)) (path : List ℕ) (words : ListWords) (calls : List Call)
+    (IsSo : AskedForm → (page : List ℕ) → (reads : List Call) → Type 0) : Type 0 where
+  pub told : AskedForm
+  pub deck : List Call
+  pub page : List ℕ
+  pub reads : List Call
+  pub is_form : IsAskedFormBy deck input words told
+  pub agrees : AgreesWith told.told.schema page
+  pub are : calls ≡ reads ++ taken_shared path 4096 (Some page) ∷ deck
+  pub so : IsSo told page reads
+
+-- the records of a file were listed as is asked for, after a check of it, and this is how the list ended
+abbrev pub ListsRecords : Unseen → (input : Option (List ℕ)) → (path : List ℕ) → ListWords
+    → (from to : Option (List ℕ)) (first : ℕ) → (before behind : Option (List ℕ)) → List Call → FileList
+    → Type 0
+ListsRecords disk input path words from to first before behind calls list =
+    OfFormAndFile input path words calls (λ told page reads. (asked : Asked)
+    × IsAskedFor told.key from to first told.conditions.items asked
+    × ListsPath disk path page told.told.form asked before behind (Ok list) reads)
 
 -- the records of a file were listed as these words ask for it, in the form that is asked for, and this
 -- is how the list ended; or the file is of another schema than the deck whose columns are asked for
-abbrev pub ListsAsked : {W : Type 0} → (input : Option (List ℕ)) → (path : List ℕ) → Bounds
+abbrev pub ListsAsked : {W : Type 0} → Unseen → (input : Option (List ℕ)) → (path : List ℕ) → Bounds
     → ListWords → (W → Option (List ℕ)) → (old new : W) → List Call → Outcome → Type 0
-ListsAsked input path bounds asked contents old new calls (Records list) =
-    OfFormAndFile input path asked calls (λ told bytes.
-    AgreesWith told.told.schema bytes × ListsRecords told.told.form bytes told.key (word_in bounds.from)
-    (word_in bounds.to) bounds.first told.conditions.items (contents old) (contents new) list)
-ListsAsked input path bounds asked contents old new calls OtherSchema =
-    OfFormAndFile input path asked calls (λ told bytes.
-    WritesOther told.told.schema bytes (contents old) (contents new))
-ListsAsked input path bounds asked contents old new calls outcome = ⊥
+ListsAsked disk input path bounds asked contents old new calls (Records list) =
+    ListsRecords disk input path asked (word_in bounds.from) (word_in bounds.to) bounds.first (contents old)
+    (contents new) calls list
+ListsAsked disk input path bounds asked contents old new calls OtherSchema = (told : AskedForm)
+    × (deck : List Call) × IsAskedFormBy deck input asked told
+    × OfFirstPage path deck calls (λ page. WritesOther told.told.schema page (contents old) (contents new))
+ListsAsked disk input path bounds asked contents old new calls outcome = ⊥
 
 -- whether a file of these bytes is of another schema than that of a deck, if there is one: the
 -- differences are written then, and nothing otherwise
@@ -105,10 +132,10 @@ pub record ToldOfList (end : Result FileList ListFault) (result : Result Outcome
 
 -- the records that words ask for were listed; or the words are refused, or the input, the output or
 -- memory failed. Unless one of these failed, nothing is written where nothing is listed
-pub record ListsFile
-    {W : Type 0} (input : Option (List ℕ)) (path : List ℕ) (bounds : Bounds) (form : FormWords)
+pub record ListsAs
+    {W : Type 0} (disk : Unseen) (input : Option (List ℕ)) (path : List ℕ) (bounds : Bounds) (form : FormWords)
     (contents : W → Option (List ℕ)) (old new : W) (result : Result Outcome CommandFault) (calls : List Call)
     : Type 0 where
-  pub records : IfOk result (ListsAsked input path bounds (words_of bounds form) contents old new calls)
+  pub records : IfOk result (ListsAsked disk input path bounds (words_of bounds form) contents old new calls)
   pub untouched : IfErr result (λ fault. status_of fault ≢ 4 → new ≡ old)
   pub fault : IfErr result (IsListRefused (words_of bounds form))

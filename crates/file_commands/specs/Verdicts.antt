@@ -1,5 +1,5 @@
 -- What is written of files that are checked, and what is worst of them. All of this is ours.
-use Rattle.std.specs.Prelude.{◌≡◌, ℕ, List, [], ◌∷◌, ◌++◌, map, codes, decimal, Option, Some, None}
+use Rattle.std.specs.Prelude.{◌≡◌, ℕ, true, List, [], ◌∷◌, ◌++◌, map, codes, decimal, Option, Some, None}
 use Rattle.std.specs.Prelude.{Result, Ok, Err, IfOk, IfErr}
 use Rattle.std.specs.Io.KnownBytes.{Appends}
 use Rattle.clap.specs.Words.{Text}
@@ -11,9 +11,13 @@ use Rattle.file_checker.specs.declared.verdict.Verdict.TheVariants.{Sound, Unsou
 use Rattle.record_text.specs.Columns.{text_of}
 use Rattle.system_files.specs.declared.cause.Cause.{Cause}
 use Rattle.folder_shelf.specs.Calls.{Call}
-use Rattle.command_support.specs.Front.{OfCountedFile, IsUnreadBy}
+use Rattle.folder_shelf.specs.Replay.{Unseen}
+use Rattle.file_commands.specs.Since.{has_failed_read}
+use Rattle.file_commands.specs.ByPages.{ByLastReads}
 use Rattle.file_commands.specs.declared.verdict.NoVerdict.{NoVerdict}
 use Rattle.file_commands.specs.declared.verdict.NoVerdict.TheVariants.{Unread, Memory}
+use Rattle.command_support.specs.Front.{GivesSuch}
+use Rattle.command_support.specs.declared.fault.CommandFault.{CommandFault}
 use Rattle.command_support.specs.declared.outcome.Outcome.{Outcome}
 use Rattle.command_support.specs.declared.outcome.Outcome.TheVariants.{Checked, CheckedAll}
 use Rattle.command_support.specs.declared.outcome.WorstCheck.{WorstCheck}
@@ -25,7 +29,7 @@ use Rattle.command_support.specs.declared.outcome.WorstCheck.TheVariants.{Unread
 abbrev pub verdict_line : Verdict → List ℕ
 verdict_line (Sound records pages) =
     codes "sound records " ++ (decimal records ++ (codes " pages " ++ (decimal pages ++ codes "\n")))
-verdict_line (Unsound reason) = codes "unsound " ++ (decimal (number_of reason) ++ codes "\n")
+verdict_line (Unsound reason place) = codes "unsound " ++ (decimal (number_of reason) ++ codes "\n")
 
 -- a line behind the path of its file, which is shown as records are
 abbrev pub behind_path : (path line : List ℕ) → List ℕ
@@ -50,19 +54,19 @@ AreFileLines (path ∷ paths) (found ∷ more) lines =
     (line : List ℕ) × (rest : List ℕ) × IsFileLine path found line × AreFileLines paths more rest
     × (lines ≡ line ++ rest)
 
--- the verdict is right of the bytes that these calls gave of the file of a path; or by them it
--- cannot be read
-abbrev pub IsFoundBy : (path : List ℕ) → List Call → Option Verdict → Type 0
-IsFoundBy path calls (Some verdict) = OfCountedFile path [] calls (λ bytes. IsRight bytes verdict)
-IsFoundBy path calls None = IsUnreadBy path calls
+-- where each answer to the last of these calls was that of the files of a disk, the verdict is right of the
+-- bytes of the one at a path; or one of them failed
+abbrev pub IsFoundBy : Unseen → (path : List ℕ) → List Call → Option Verdict → Type 0
+IsFoundBy disk path calls (Some verdict) = ByLastReads disk path calls (λ bytes. IsRight bytes verdict)
+IsFoundBy disk path calls None = has_failed_read calls ≡ true
 
 -- so of each file, in the order of their paths
-abbrev pub AreFoundBy : (paths : List Text) → List Call → List (Option Verdict) → Type 0
-AreFoundBy [] calls [] = calls ≡ []
-AreFoundBy [] calls (found ∷ more) = ⊥
-AreFoundBy (path ∷ paths) calls [] = ⊥
-AreFoundBy (path ∷ paths) calls (found ∷ more) = (before : List Call) × (later : List Call)
-    × (calls ≡ later ++ before) × IsFoundBy path before found × AreFoundBy paths later more
+abbrev pub AreFoundBy : Unseen → (paths : List Text) → List Call → List (Option Verdict) → Type 0
+AreFoundBy disk [] calls [] = calls ≡ []
+AreFoundBy disk [] calls (found ∷ more) = ⊥
+AreFoundBy disk (path ∷ paths) calls [] = ⊥
+AreFoundBy disk (path ∷ paths) calls (found ∷ more) = (before : List Call) × (later : List Call)
+    × (calls ≡ later ++ before) × IsFoundBy disk path before found × AreFoundBy disk paths later more
 
 -- what is worst where a file is not sound beside others
 abbrev pub or_unsound : WorstCheck → WorstCheck
@@ -74,7 +78,7 @@ or_unsound OneUnread = OneUnread
 abbrev pub worse_of : Option Verdict → WorstCheck → WorstCheck
 worse_of None others = OneUnread
 worse_of (Some (Sound records pages)) others = others
-worse_of (Some (Unsound reason)) others = or_unsound others
+worse_of (Some (Unsound reason place)) others = or_unsound others
 
 -- what is worst of files: that one cannot be read, then that one is not sound
 abbrev pub worst_of : List (Option Verdict) → WorstCheck
@@ -83,10 +87,10 @@ worst_of (found ∷ more) = worse_of found (worst_of more)
 
 -- files were checked: what was found of each is right, and the lines of all of them were written, in
 -- their order
-pub record WritesVerdicts (paths : List Text) (before behind : Option (List ℕ)) (calls : List Call)
-    (worst : WorstCheck) : Type 0 where
+pub record WritesVerdicts (disk : Unseen) (paths : List Text) (before behind : Option (List ℕ))
+    (calls : List Call) (worst : WorstCheck) : Type 0 where
   pub found : List (Option Verdict)
-  pub right : AreFoundBy paths calls found
+  pub right : AreFoundBy disk paths calls found
   pub lines : List ℕ
   pub are_lines : AreFileLines paths found lines
   pub written : Appends before behind lines
@@ -97,30 +101,42 @@ abbrev pub WritesLine : (path : List ℕ) → Option Verdict → (before behind 
 WritesLine path found before behind = (line : List ℕ) × IsFileLine path found line × Appends before behind line
 
 -- so, and what was found of it is right
-abbrev pub WritesLineOf : (path : List ℕ) → (before behind : Option (List ℕ)) → List Call
+abbrev pub WritesLineOf : Unseen → (path : List ℕ) → (before behind : Option (List ℕ)) → List Call
     → Option Verdict → Type 0
-WritesLineOf path before behind calls found = IsFoundBy path calls found × WritesLine path found before behind
+WritesLineOf disk path before behind calls found =
+    IsFoundBy disk path calls found × WritesLine path found before behind
 
 -- the file of a path was checked, and the line of the verdict was written
-abbrev pub ChecksFile : {W : Type 0} → (path : List ℕ) → (W → Option (List ℕ)) → (old new : W)
+abbrev pub ChecksFile : {W : Type 0} → Unseen → (path : List ℕ) → (W → Option (List ℕ)) → (old new : W)
     → List Call → Outcome → Type 0
-ChecksFile path contents old new calls outcome = (verdict : Verdict) × (outcome ≡ Checked verdict)
-    × IsFoundBy path calls (Some verdict) × Appends (contents old) (contents new) (verdict_line verdict)
+ChecksFile disk path contents old new calls outcome = (verdict : Verdict) × (outcome ≡ Checked verdict)
+    × IsFoundBy disk path calls (Some verdict) × Appends (contents old) (contents new) (verdict_line verdict)
+
+-- where the output did not fail, one of several files was checked so
+abbrev pub ChecksNamed : Unseen → (path : List ℕ) → (before behind : Option (List ℕ))
+    → Result (Option Verdict) CommandFault → List Call → Type 0
+ChecksNamed disk path before behind result calls = GivesSuch (WritesLineOf disk path before behind calls) result
+
+-- or all of them
+abbrev pub ChecksAll : Unseen → (paths : List Text) → (before behind : Option (List ℕ))
+    → Result WorstCheck CommandFault → List Call → Type 0
+ChecksAll disk paths before behind result calls = GivesSuch (WritesVerdicts disk paths before behind calls) result
 
 -- the paths of files
 abbrev pub paths_of : List (Bor (List ℕ)) → List Text
 paths_of paths = map (λ path. path.now) paths
 
 -- the files of paths were checked, and a line of each was written
-abbrev pub ChecksFiles : {W : Type 0} → List (Bor (List ℕ)) → (W → Option (List ℕ)) → (old new : W)
+abbrev pub ChecksFiles : {W : Type 0} → Unseen → List (Bor (List ℕ)) → (W → Option (List ℕ)) → (old new : W)
     → List Call → Outcome → Type 0
-ChecksFiles paths contents old new calls outcome = (worst : WorstCheck) × (outcome ≡ CheckedAll worst)
-    × WritesVerdicts (paths_of paths) (contents old) (contents new) calls worst
+ChecksFiles disk paths contents old new calls outcome = (worst : WorstCheck) × (outcome ≡ CheckedAll worst)
+    × WritesVerdicts disk (paths_of paths) (contents old) (contents new) calls worst
 
 -- a verdict was found of the file of a path; or it cannot be read
-pub record FindsVerdict (path : List ℕ) (result : Result Verdict NoVerdict) (calls : List Call) : Type 0 where
-  pub right : IfOk result (λ verdict. IsFoundBy path calls (Some verdict))
-  pub unread : IfErr result (λ why. (cause : Cause) → why ≡ Unread cause → IsFoundBy path calls None)
+pub record FindsVerdict (disk : Unseen) (path : List ℕ) (result : Result Verdict NoVerdict) (calls : List Call)
+    : Type 0 where
+  pub right : IfOk result (λ verdict. IsFoundBy disk path calls (Some verdict))
+  pub unread : IfErr result (λ why. (cause : Cause) → why ≡ Unread cause → IsFoundBy disk path calls None)
 
 -- the line of one of several files was written by what was found of it, and that is told
 abbrev pub WritesFound : (path : List ℕ) → Result Verdict NoVerdict → (before behind : Option (List ℕ))

@@ -45,7 +45,7 @@ fn reason_of<S: System, P: Progress>(
         Err(fault) => return Err(not_read(fault)),
     };
     match check_bytes(alloc, bytes.as_slice()) {
-        Ok(Verdict::Unsound(reason)) => Ok(Outcome::Records(FileList::Unsound(reason))),
+        Ok(Verdict::Unsound(reason, _)) => Ok(Outcome::Records(FileList::Unsound(reason))),
         Ok(Verdict::Sound { .. }) => Err(CommandFault::Input),
         Err(_) => Err(CommandFault::Memory),
     }
@@ -85,7 +85,7 @@ fn told_pages<S: System, P: Progress>(
 }
 
 /// What is listed of the file of a path, in which form, and the first page of the file.
-fn read_start<S: System, I: Read>(
+pub fn read_start<S: System, I: Read>(
     system: &mut S,
     alloc: Global,
     path: &str,

@@ -3,7 +3,7 @@ ghost use Rattle.file_reports.specs.SchemaListing.{read_of_file};
 ghost use Rattle.folder_shelf.specs.Reading.{ByReads};
 ghost use Rattle.file_commands.specs.Schema.{ComparesAs, ComparesFileAlone, IsOfComparison, ComesOfFile};
 ghost use Rattle.file_commands.specs.Schema.{ComparesPaths};
-ghost use Rattle.command_support.specs.Front.{ReadsOnly};
+ghost use Rattle.command_support.specs.Front.{ReadBy};
 
 use crate::first_page::fault_of;
 use command_support::{CommandFault, Outcome, deck_at, file_in, read_first_page};
@@ -61,7 +61,7 @@ pub fn compare_path<S: System, I: Read, W: Write>(
     input: &mut I,
     out: &mut W,
 ) -> Result<Outcome, CommandFault>
-    ensures { ReadsOnly S.state system.old system.new (ComparesPaths (I.remaining input.old)
+    ensures { ReadBy S.state system.old system.new (ComparesPaths (I.remaining input.old)
         path.now deck.now name.now W.contents out.old out.new result) }
 {
     let deck = match deck_at(system, alloc, deck, input) {

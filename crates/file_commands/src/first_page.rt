@@ -4,7 +4,7 @@ ghost use Rattle.file_reports.specs.SchemaListing.{read_of_file};
 ghost use Rattle.folder_shelf.specs.Reading.{ByReads};
 ghost use Rattle.file_commands.specs.Schema.{TellsAs, TellsFile, IsOfSchema, ComesOfFile, AnswersSchema};
 ghost use Rattle.file_commands.specs.Schema.{listing_told_as};
-ghost use Rattle.command_support.specs.Front.{ReadsOnly};
+ghost use Rattle.command_support.specs.Front.{ReadBy};
 ghost use Rattle.command_support.specs.Status.{status_of};
 
 use crate::comparing::compare_path;
@@ -68,7 +68,7 @@ pub fn schema<S: System, I: Read, W: Write>(
     input: &mut I,
     out: &mut W,
 ) -> Result<Outcome, CommandFault>
-    ensures { ReadsOnly S.state system.old system.new (AnswersSchema (I.remaining input.old)
+    ensures { ReadBy S.state system.old system.new (AnswersSchema (I.remaining input.old)
         path.now deck.entry name.entry W.contents out.old out.new result) }
 {
     match (deck, name) {

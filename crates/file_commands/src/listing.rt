@@ -1,24 +1,16 @@
-//! The list of the records of the file of a path.
-ghost use Rattle.std.specs.Prelude.{◌≡◌, option_map};
-ghost use Rattle.folder_shelf.specs.Reading.{ByReads};
-ghost use Rattle.command_support.specs.Front.{word_in, GivesSuch};
+//! What is asked of a list of the records of a file.
+ghost use Rattle.command_support.specs.Front.{GivesSuch};
 ghost use Rattle.command_support.specs.Bound.{FitsValue};
-ghost use Rattle.file_commands.specs.Records.{AreValues, IsAskedBy, ToldOfList, ListsFile, TellsOther};
+ghost use Rattle.file_commands.specs.Records.{AreValues, IsAskedBy, TellsOther};
 
 use crate::first_page::fault_of;
-use command_support::{
-    AskedForm, CommandFault, Outcome, fault_of as not_read, form_and_conditions, last_of,
-    read_counted, value_of,
-};
-use command_words::FormWords;
+use command_support::{CommandFault, Outcome, last_of, value_of};
 use file_reports::{Comparison, compare_schema};
-use folder_shelf::System;
 use io_state::Key;
 use record_layout::Schema;
-use record_listing::{Asked, Condition, FileList, ListFault, list_file_as};
+use record_listing::{Asked, Condition};
 use std::alloc::Global;
-use std::io::{Read, Write};
-use streams::Progress;
+use std::io::Write;
 
 /// What is asked of the list of a file: a key by its number or its name, the first and the last value,
 /// how many records at most, and the words of the conditions that each has to meet.
@@ -62,18 +54,6 @@ pub fn asked_by(bounds: Bounds<'_>, values: Values, key: u8, conditions: Vec<Con
     }
 }
 
-/// How a list ended, as what was done.
-pub fn ended(end: Result<FileList, ListFault>) -> Result<Outcome, CommandFault>
-    ensures { ToldOfList end result }
-{
-    match end {
-        Ok(list) => Ok(Outcome::Records(list)),
-        Err(ListFault::Input) => Err(CommandFault::Input),
-        Err(ListFault::Output) => Err(CommandFault::Output),
-        Err(ListFault::Memory) => Err(CommandFault::Memory),
-    }
-}
-
 /// Whether a file that has these bytes is of another schema than that of a deck, if there is one:
 /// the differences are written then, and nothing otherwise.
 pub fn is_other<W: Write>(
@@ -91,49 +71,5 @@ pub fn is_other<W: Write>(
         Ok(Ok(Comparison::Different)) => Ok(true),
         Ok(_) => Ok(false),
         Err(fault) => Err(fault_of(fault)),
-    }
-}
-
-/// Writes the lines of the records of the file of a path that are asked for, in the form that is
-/// asked for, once a check has found it sound. `LongValue`: nothing was read or written. `Form`, `Deck`, `NoSuchFile`: there is no
-/// such form, and the file was not read. Where the columns are those of a deck, and OPEN in it would
-/// find the file to be of another schema, a line of each difference is written in place of the
-/// records. While the file is read, it is told how many bytes have come.
-pub fn list_checked<S: System, I: Read, P: Progress, W: Write>(
-    system: &mut S,
-    alloc: Global,
-    path: &str,
-    bounds: Bounds<'_>,
-    form: FormWords<'_>,
-    input: &mut I,
-    progress: &mut P,
-    out: &mut W,
-) -> Result<Outcome, CommandFault>
-    ensures { ByReads (ListsFile (I.remaining input.old) path.now bounds.entry form.entry
-        W.contents out.old out.new result) (S.state system.old) (S.state system.new) }
-{
-    let values = match values_of(bounds) {
-        Ok(values) => values,
-        Err(fault) => return Err(fault),
-    };
-    let words = bounds.conditions;
-    let formed = match form_and_conditions(system, alloc, form, bounds.key, words, input) {
-        Ok(formed) => formed,
-        Err(fault) => return Err(fault),
-    };
-    let AskedForm {
-        told,
-        key,
-        conditions,
-    } = formed;
-    let asked = asked_by(bounds, values, key, conditions);
-    let bytes = match read_counted(system, path, progress) {
-        Ok(bytes) => bytes,
-        Err(fault) => return Err(not_read(fault)),
-    };
-    match is_other(alloc, bytes.as_slice(), &told.schema, out) {
-        Ok(true) => Ok(Outcome::OtherSchema),
-        Ok(false) => ended(list_file_as(alloc, bytes, asked, &told.form, out)),
-        Err(fault) => Err(fault),
     }
 }

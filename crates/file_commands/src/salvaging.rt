@@ -1,10 +1,10 @@
 //! The records that are left in the file of a path.
 ghost use Rattle.std.specs.Prelude.{◌≡◌};
 ghost use Rattle.folder_shelf.specs.Reading.{ByReads};
-ghost use Rattle.salvaged_records.specs.Salvaged.{both_outputs, with_gate_closed};
+ghost use Rattle.salvaged_records.specs.Salvaged.{writings, with_gate_closed};
 ghost use Rattle.command_words.specs.Asks.{form_text};
 ghost use Rattle.command_support.specs.DeckFile.{ComesOfDeck};
-ghost use Rattle.command_support.specs.Front.{ReadsOnly};
+ghost use Rattle.command_support.specs.Front.{ReadBy};
 ghost use Rattle.file_commands.specs.Salvaged.{IsSchemaIn, GivesSchemaAsked, GivesSalvageForm};
 ghost use Rattle.file_commands.specs.Salvaged.{SalvagesClosed, SalvagesAt};
 ghost use Rattle.command_support.specs.Status.{status_of};
@@ -132,7 +132,7 @@ fn salvage_bytes<W: Write, E: Write>(
     out: &mut W,
 ) -> Result<Outcome, CommandFault>
     ensures { SalvagesClosed asked.now places bytes.items
-        (both_outputs W.contents E.contents (out.old, told.old) (out.new, told.new)) result }
+        (writings W.contents E.contents (out.old, told.old) (out.new, told.new)) result }
 {
     let form = SalvageForm {
         form: &asked.form,
@@ -161,7 +161,7 @@ pub fn salvage_path<S: System, I: Read, W: Write, E: Write>(
     told: &mut E,
     out: &mut W,
 ) -> Result<Outcome, CommandFault>
-    ensures { ReadsOnly S.state system.old system.new (SalvagesAt (I.remaining input.old) asked.entry
+    ensures { ReadBy S.state system.old system.new (SalvagesAt (I.remaining input.old) asked.entry
         E.contents told.old told.new W.contents out.old out.new result) }
 {
     let form = match salvage_form(system, alloc, asked.form, input) {

@@ -1,18 +1,18 @@
 //! The check of files, and what is written of them.
 ghost use Rattle.std.specs.Prelude.{◌≡◌, Some, None, IfOk, IfErr};
 ghost use Rattle.std.specs.Io.KnownBytes.{Appends};
-ghost use Rattle.file_checker.specs.Sound.{IsRight};
 ghost use Rattle.command_support.specs.Status.{status_of};
 ghost use Rattle.folder_shelf.specs.Reading.{ByReads};
 ghost use Rattle.command_support.specs.Front.{GivesSuch, DoesBy};
-ghost use Rattle.file_commands.specs.Verdicts.{verdict_line, worse_of, paths_of, ChecksFile, ChecksFiles};
-ghost use Rattle.file_commands.specs.Verdicts.{WritesLine, WritesLineOf, WritesVerdicts, FindsVerdict};
+ghost use Rattle.file_commands.specs.Verdicts.{verdict_line, worse_of, paths_of, ChecksAll, ChecksFile};
+ghost use Rattle.file_commands.specs.Verdicts.{ChecksFiles, ChecksNamed, WritesLine, FindsVerdict};
 ghost use Rattle.file_commands.specs.Verdicts.{WritesFound};
 
+use crate::by_pages::{NotRead, examine_at_path, last_cause};
 use crate::verdict_lines::{named_line, unread_line, verdict_line};
-use command_support::{CommandFault, Outcome, WorstCheck, fault_of, read_counted};
-use file_checker::{Verdict, check_bytes};
-use folder_shelf::System;
+use command_support::{CommandFault, Outcome, WorstCheck, fault_of};
+use file_checker::Verdict;
+use folder_shelf::{Disk, System};
 use std::alloc::Global;
 use std::io::Write;
 use streams::Progress;
@@ -35,37 +35,32 @@ fn fault_by(why: NoVerdict) -> CommandFault
     }
 }
 
-/// Why bytes that did not come have no verdict.
-fn not_found(fault: ReadFault) -> NoVerdict {
-    match fault {
-        ReadFault::Device(cause) => NoVerdict::Unread(cause),
-        ReadFault::Memory => NoVerdict::Memory,
-    }
-}
-
-/// Checks the file that has these bytes.
-fn check(alloc: Global, bytes: &[u8]) -> Result<Verdict, NoVerdict>
-    ensures right { IfOk result (IsRight bytes.now) }
-    ensures memory { IfErr result (λ why. why ≡ NoVerdict.Memory) }
+/// Why a file has no verdict, with the cause, if memory was had to keep it.
+fn without_verdict(why: NotRead, cause: Option<Cause>) -> NoVerdict
+    ensures { (cause : Cause) → result ≡ NoVerdict.Unread cause → why ≡ NotRead.Device }
 {
-    match check_bytes(alloc, bytes) {
-        Ok(verdict) => Ok(verdict),
-        Err(_) => Err(NoVerdict::Memory),
+    match (why, cause) {
+        (NotRead::Device, Some(cause)) => NoVerdict::Unread(cause),
+        _ => NoVerdict::Memory,
     }
 }
 
 /// The verdict on the file of a path, as long as no run changes it. It is told how many bytes have come.
-fn verdict_of<S: System, P: Progress>(
-    system: &mut S,
+fn verdict_of<S: System + Drop, D: Disk, P: Progress>(
+    system: S,
     alloc: Global,
     path: &str,
     progress: &mut P,
-) -> Result<Verdict, NoVerdict>
-    ensures { ByReads (FindsVerdict path.now result) (S.state system.old) (S.state system.new) }
+) -> (S, Result<Verdict, NoVerdict>)
+    ensures { ByReads (FindsVerdict D.Disk.unseen path.now result.1) (S.state system) (S.state result.0) }
 {
-    match read_counted(system, path, progress) {
-        Ok(bytes) => check(alloc, bytes.as_slice()),
-        Err(fault) => Err(not_found(fault)),
+    let (system, found) = examine_at_path::<S, D, P>(system, alloc, path, progress);
+    match found {
+        Ok(verdict) => (system, Ok(verdict)),
+        Err(why) => {
+            let why = without_verdict(why, last_cause(&system));
+            (system, Err(why))
+        }
     }
 }
 
@@ -81,23 +76,24 @@ fn write_line<W: Write>(line: &[u8], out: &mut W) -> Result<(), CommandFault>
 }
 
 /// Checks the file of a path, as long as no run changes it, and writes the verdict.
-pub fn check_path<S: System, P: Progress, W: Write>(
-    system: &mut S,
+pub fn check_path<S: System + Drop, D: Disk, P: Progress, W: Write>(
+    system: S,
     alloc: Global,
     path: &str,
     progress: &mut P,
     out: &mut W,
-) -> Result<Outcome, CommandFault>
-    ensures { ByReads (DoesBy (ChecksFile path.now W.contents out.old out.new) result)
-        (S.state system.old) (S.state system.new) }
+) -> (S, Result<Outcome, CommandFault>)
+    ensures { ByReads (DoesBy (ChecksFile D.Disk.unseen path.now W.contents out.old out.new) result.1)
+        (S.state system) (S.state result.0) }
 {
-    let verdict = match verdict_of(system, alloc, path, progress) {
+    let (system, verdict) = verdict_of::<S, D, P>(system, alloc, path, progress);
+    let verdict = match verdict {
         Ok(verdict) => verdict,
-        Err(why) => return Err(fault_by(why)),
+        Err(why) => return (system, Err(fault_by(why))),
     };
     match write_alone(alloc, verdict, out) {
-        Ok(()) => Ok(Outcome::Checked(verdict)),
-        Err(fault) => Err(fault),
+        Ok(()) => (system, Ok(Outcome::Checked(verdict))),
+        Err(fault) => (system, Err(fault)),
     }
 }
 
@@ -160,18 +156,18 @@ fn write_found<W: Write>(
 }
 
 /// Checks the file of a path, one of several, and writes its line: the verdict, if there is one.
-fn check_named<S: System, P: Progress, W: Write>(
-    system: &mut S,
+fn check_named<S: System + Drop, D: Disk, P: Progress, W: Write>(
+    system: S,
     alloc: Global,
     path: &str,
     progress: &mut P,
     out: &mut W,
-) -> Result<Option<Verdict>, CommandFault>
-    ensures { ByReads (λ calls. GivesSuch (WritesLineOf path.now (W.contents out.old)
-        (W.contents out.new) calls) result) (S.state system.old) (S.state system.new) }
+) -> (S, Result<Option<Verdict>, CommandFault>)
+    ensures { ByReads (ChecksNamed D.Disk.unseen path.now (W.contents out.old) (W.contents out.new)
+        result.1) (S.state system) (S.state result.0) }
 {
-    let found = verdict_of(system, alloc, path, progress);
-    write_found(alloc, path, found, out)
+    let (system, found) = verdict_of::<S, D, P>(system, alloc, path, progress);
+    (system, write_found(alloc, path, found, out))
 }
 
 /// What is worst of a file and of others.
@@ -181,50 +177,53 @@ fn worse_of(found: Option<Verdict>, others: WorstCheck) -> WorstCheck
     match (found, others) {
         (None, _) => WorstCheck::Unread,
         (Some(Verdict::Sound { .. }), others) => others,
-        (Some(Verdict::Unsound(_)), WorstCheck::Unread) => WorstCheck::Unread,
-        (Some(Verdict::Unsound(_)), _) => WorstCheck::Unsound,
+        (Some(Verdict::Unsound(_, _)), WorstCheck::Unread) => WorstCheck::Unread,
+        (Some(Verdict::Unsound(_, _)), _) => WorstCheck::Unsound,
     }
 }
 
 /// Checks the files of paths one after another, and writes a line of each: what is worst of them.
-fn check_files<S: System, P: Progress, W: Write>(
-    system: &mut S,
+fn check_files<S: System + Drop, D: Disk, P: Progress, W: Write>(
+    system: S,
     alloc: Global,
     paths: &[&str],
     progress: &mut P,
     out: &mut W,
-) -> Result<WorstCheck, CommandFault>
-    ensures { ByReads (λ calls. GivesSuch (WritesVerdicts (paths_of paths.now) (W.contents out.old)
-        (W.contents out.new) calls) result) (S.state system.old) (S.state system.new) }
+) -> (S, Result<WorstCheck, CommandFault>)
+    ensures { ByReads (ChecksAll D.Disk.unseen (paths_of paths.now) (W.contents out.old)
+        (W.contents out.new) result.1) (S.state system) (S.state result.0) }
 {
     let Some((first, rest)) = paths.split_first() else {
-        return Ok(WorstCheck::AllSound);
+        return (system, Ok(WorstCheck::AllSound));
     };
-    let found = match check_named(system, alloc, first, progress, out) {
+    let (system, found) = check_named::<S, D, P, W>(system, alloc, first, progress, out);
+    let found = match found {
         Ok(found) => found,
-        Err(fault) => return Err(fault),
+        Err(fault) => return (system, Err(fault)),
     };
-    match check_files(system, alloc, rest, progress, out) {
-        Ok(others) => Ok(worse_of(found, others)),
-        Err(fault) => Err(fault),
+    let (system, others) = check_files::<S, D, P, W>(system, alloc, rest, progress, out);
+    match others {
+        Ok(others) => (system, Ok(worse_of(found, others))),
+        Err(fault) => (system, Err(fault)),
     }
 }
 
 /// Checks the files of several paths, each as long as no run changes it, and writes a line of each
 /// behind its path: the verdict, or why the file cannot be read. Want of memory, or an output that
 /// fails, ends it.
-pub fn check_paths<S: System, P: Progress, W: Write>(
-    system: &mut S,
+pub fn check_paths<S: System + Drop, D: Disk, P: Progress, W: Write>(
+    system: S,
     alloc: Global,
     paths: &[&str],
     progress: &mut P,
     out: &mut W,
-) -> Result<Outcome, CommandFault>
-    ensures { ByReads (DoesBy (ChecksFiles paths.now W.contents out.old out.new) result)
-        (S.state system.old) (S.state system.new) }
+) -> (S, Result<Outcome, CommandFault>)
+    ensures { ByReads (DoesBy (ChecksFiles D.Disk.unseen paths.now W.contents out.old out.new) result.1)
+        (S.state system) (S.state result.0) }
 {
-    match check_files(system, alloc, paths, progress, out) {
-        Ok(worst) => Ok(Outcome::CheckedAll(worst)),
-        Err(fault) => Err(fault),
+    let (system, worst) = check_files::<S, D, P, W>(system, alloc, paths, progress, out);
+    match worst {
+        Ok(worst) => (system, Ok(Outcome::CheckedAll(worst))),
+        Err(fault) => (system, Err(fault)),
     }
 }

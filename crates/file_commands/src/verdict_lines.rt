@@ -34,7 +34,7 @@ fn add_verdict(line: &mut Vec<u8>, verdict: Verdict) -> Result<(), AllocError>
             add_number(line, b"sound records ", records)?;
             add_number(line, b" pages ", u64::from(pages))?;
         }
-        Verdict::Unsound(reason) => {
+        Verdict::Unsound(reason, _) => {
             add_number(line, b"unsound ", u64::from(reason.number()))?;
         }
     }

@@ -4,7 +4,7 @@
 use crate::checks::{assert_equal, assert_equal_for, assert_that};
 use crate::slow::Slow;
 use crate::written::{one_record, put, put_all, three_keys, varying};
-use file_checker::{CheckFault, Finding, Reason, Verdict, check_file, examine_file};
+use file_checker::{CheckFault, Reason, Verdict, check_file};
 use pages::FaultPlace;
 use std::alloc::Global;
 use std::fmt::Debug;
@@ -32,12 +32,6 @@ fn check(alloc: Global, bytes: &[u8]) -> Result<Verdict, CheckFault> {
     check_file(alloc, &mut reader)
 }
 
-/// The same, and where it is met.
-fn examine(alloc: Global, bytes: &[u8]) -> Result<Finding, CheckFault> {
-    let mut reader = bytes;
-    examine_file(alloc, &mut reader)
-}
-
 /// The bytes are unsound for this reason, which is met there.
 fn is_unsound<W: Debug + Drop + Copy>(
     rt: &impl Abort,
@@ -47,10 +41,8 @@ fn is_unsound<W: Debug + Drop + Copy>(
     reason: Reason,
     place: FaultPlace,
 ) {
-    let examined = examine(alloc, bytes);
-    assert_equal_for(rt, what, examined, Ok(Finding::Unsound(reason, place)));
     let checked = check(alloc, bytes);
-    assert_equal_for(rt, what, checked, Ok(Verdict::Unsound(reason)));
+    assert_equal_for(rt, what, checked, Ok(Verdict::Unsound(reason, place)));
 }
 
 #[test]

@@ -8,14 +8,14 @@ pub returns-then-checked-clause-so : goal.returns-then-checked-clause-so
 returns-then-checked-clause-so g c =
     let listing = c.args.listing in
     let old = g.S.System.state c.args.system in
-    let new = g.S.System.state c.list_checked-listed.new.system in
+    let new = g.S.System.state c.list_checked.result.0 in
     let is : listing.checked ≡ true = search rules in
     subst (λ (checked : Bool). ByReadsAside (ListsEitherWay checked g.D.Disk.unseen (g.I.Read.remaining c.args.input.now) listing.file.now listing.bounds listing.form g.W.Write.contents c.args.out.now
-    c.list_checked-listed.new.out c.list_checked-listed.result) old.calls c.args.aside.now.calls new.calls) (sym is)
-    (none_aside old new c.args.aside.now.calls c.requires.none_aside c.list_checked-listed.ensures (λ calls so. so))
+    c.list_checked.new.out c.list_checked.result.1) old.calls c.args.aside.now.calls new.calls) (sym is)
+    (none_aside old new c.args.aside.now.calls c.requires.none_aside c.list_checked.ensures (λ calls so. so))
 
 pub returns-then-checked-clause-untouched : goal.returns-then-checked-clause-untouched
-returns-then-checked-clause-untouched g c = c.list_checked-listed.ensures.so.untouched
+returns-then-checked-clause-untouched g c = c.list_checked.ensures.so.untouched
 
 pub returns-clause-so : goal.returns-clause-so
 returns-clause-so g c =

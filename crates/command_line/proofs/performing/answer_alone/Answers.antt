@@ -32,7 +32,7 @@ returns-in-Some-clause-did g c words is =
     let asked = subst (Ask words) c.in-Check.is is in
     let all = subst (λ (files : List (Bor Text)). AskCheck words (paths_of files) c.in-Check.quiet) (sym c.as_slice.ensures.value) asked.0 in
     let one = subst (λ (files : List Text). AskCheck words files c.in-Check.quiet) c.in-Some.ensures all in
-    rw c.without_run-in-Some.ensures (did_check words c.in-Some.file.now c.in-Check.quiet one g.W.Write.contents c.args.out.now c.check_path-checked.new.out c.check_path-checked.ensures.calls c.check_path-checked.result c.check_path-checked.ensures.so)
+    rw c.without_run-in-Some.ensures (did_check words g.D.Disk.unseen c.in-Some.file.now c.in-Check.quiet one g.W.Write.contents c.args.out.now c.check_path-system.new.out c.check_path-system.ensures.calls c.check_path-system.result.1 c.check_path-system.ensures.so)
 
 pub returns-in-Some-clause-came : goal.returns-in-Some-clause-came
 returns-in-Some-clause-came g c words is =
@@ -41,9 +41,9 @@ returns-in-Some-clause-came g c words is =
     let held = g.S.System.state c.args.system in
     let all = subst (λ (files : List (Bor Text)). AskCheck words (paths_of files) c.in-Check.quiet) (sym c.as_slice.ensures.value) asked.0 in
     let one = subst (λ (files : List Text). AskCheck words files c.in-Check.quiet) c.in-Some.ensures all in
-    rw c.without_run-in-Some.ensures (inl (reads_alone g.D.Disk.unseen words input g.W.Write.contents c.args.out.now c.check_path-checked.new.out c.args.aside.now.calls c.requires.none_aside held (g.S.System.state c.check_path-checked.new.system) c.requires.held
-    c.check_path-checked.result c.check_path-checked.ensures (c.args.request, rw c.in-Check.is tt, is)
-    (λ calls so. right_check g.D.Disk.unseen words calls input g.W.Write.contents c.args.out.now c.check_path-checked.new.out c.in-Some.file.now c.in-Check.quiet one c.check_path-checked.result so)))
+    rw c.without_run-in-Some.ensures (inl (reads_alone g.D.Disk.unseen words input g.W.Write.contents c.args.out.now c.check_path-system.new.out c.args.aside.now.calls c.requires.none_aside held (g.S.System.state c.check_path-system.result.0) c.requires.held
+    c.check_path-system.result.1 c.check_path-system.ensures (c.args.request, rw c.in-Check.is tt, is)
+    (λ calls so. right_check g.D.Disk.unseen words calls input g.W.Write.contents c.args.out.now c.check_path-system.new.out c.in-Some.file.now c.in-Check.quiet one c.check_path-system.result.1 so)))
 
 pub returns-in-Schema-clause-did : goal.returns-in-Schema-clause-did
 returns-in-Schema-clause-did g c words is =
@@ -112,16 +112,16 @@ returns-in-List-clause-came g c words is =
 pub returns-in-Stat-clause-did : goal.returns-in-Stat-clause-did
 returns-in-Stat-clause-did g c words is =
     let asked = subst (Ask words) c.in-Stat.is is in
-    rw c.without_run-in-Stat.ensures (did_count words c.in-Stat.file.now asked _ c.count_path-counted.result c.count_path-counted.ensures.so.right c.count_path-counted.ensures.so.fault)
+    rw c.without_run-in-Stat.ensures (did_count words g.D.Disk.unseen c.in-Stat.file.now asked g.W.Write.contents c.args.out.now c.count_path-system.new.out c.count_path-system.ensures.calls c.count_path-system.result.1 c.count_path-system.ensures.so)
 
 pub returns-in-Stat-clause-came : goal.returns-in-Stat-clause-came
 returns-in-Stat-clause-came g c words is =
     let asked = subst (Ask words) c.in-Stat.is is in
     let input = g.I.Read.remaining c.args.input.now.reader in
     let held = g.S.System.state c.args.system in
-    rw c.without_run-in-Stat.ensures (inl (reads_alone g.D.Disk.unseen words input g.W.Write.contents c.args.out.now c.count_path-counted.new.out c.args.aside.now.calls c.requires.none_aside held (g.S.System.state c.count_path-counted.new.system) c.requires.held
-    c.count_path-counted.result c.count_path-counted.ensures (c.args.request, rw c.in-Stat.is tt, is)
-    (λ calls so. right_count g.D.Disk.unseen words calls input g.W.Write.contents c.args.out.now c.count_path-counted.new.out c.in-Stat.file.now asked c.count_path-counted.result so)))
+    rw c.without_run-in-Stat.ensures (inl (reads_alone g.D.Disk.unseen words input g.W.Write.contents c.args.out.now c.count_path-system.new.out c.args.aside.now.calls c.requires.none_aside held (g.S.System.state c.count_path-system.result.0) c.requires.held
+    c.count_path-system.result.1 c.count_path-system.ensures (c.args.request, rw c.in-Stat.is tt, is)
+    (λ calls so. right_count g.D.Disk.unseen words calls input g.W.Write.contents c.args.out.now c.count_path-system.new.out c.in-Stat.file.now asked c.count_path-system.result.1 so)))
 
 pub returns-in-Salvage-clause-did : goal.returns-in-Salvage-clause-did
 returns-in-Salvage-clause-did g c words is =

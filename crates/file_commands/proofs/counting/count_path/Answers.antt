@@ -1,27 +1,23 @@
-use Rattle.std.proofs.Common.{refl, subst}
+use Rattle.std.proofs.Common.{Result, refl, subst}
+use Rattle.folder_shelf.specs.Reading.{ByReads}
 use Rattle.folder_shelf.proofs.ReadingLemmas.{by_same}
-use Rattle.file_reports.specs.StatisticsListing.{EndsStatisticsWith}
+use Rattle.file_reports.specs.declared.statistics_listing.StatisticsFault.{StatisticsFault}
+use Rattle.file_reports.specs.declared.statistics_listing.FileStatisticsEnd.{FileStatisticsEnd}
+use Rattle.file_commands.specs.Counted.{CountsAtPath}
+use Rattle.file_commands.proofs.CountedLemmas.{counted_file}
 use Rattle.file_commands.proofs.counting.count_path.Goals as goal
 
-pub returns-in-Err : goal.returns-in-Err
-returns-in-Err g c = by_same _ _ c.in-Err.ensures (λ calls read. record { right = tt; fault = c.fault_of.ensures })
-
-pub returns-in-Ok-list_statistics : goal.returns-in-Ok-list_statistics
-returns-in-Ok-list_statistics g c =
+pub returns-in-Ok : goal.returns-in-Ok
+returns-in-Ok g c =
     let before = g.W.Write.contents c.args.out.now in
-    let behind = g.W.Write.contents c.list_statistics.new.out in
-    by_same _ _ c.in-Ok.ensures (λ calls read. record {
-      right = (
-        c.in-Ok-list_statistics.end,
-        refl,
-        (
-          c.in-Ok.bytes.items,
-          read.whole,
-          subst (λ bytes. EndsStatisticsWith bytes before behind c.in-Ok-list_statistics.end) c.as_slice.ensures.value c.in-Ok-list_statistics.ensures.ends,
-        ),
-      );
+    let behind = g.W.Write.contents c.count_at_path-system.new.out in
+    let disk = g.D.Disk.unseen in
+    let counted = subst (λ (r : Result FileStatisticsEnd StatisticsFault). ByReads (CountsAtPath disk c.args.path.now before behind r) (g.S.System.state c.args.system) (g.S.System.state c.count_at_path-system.result.0))
+    c.in-Ok.is c.count_at_path-system.ensures in
+    by_same _ _ counted (λ calls counts. record {
+      right = (c.in-Ok.end, refl, counts.ends, counted_file disk c.args.path.now before behind calls c.in-Ok.end counts);
       fault = tt;
     })
 
-pub returns : goal.returns
-returns g c = by_same _ _ c.in-Ok.ensures (λ calls read. record { right = tt; fault = c.fault_of-in-Err-list_statistics.ensures })
+pub returns-in-Err : goal.returns-in-Err
+returns-in-Err g c = by_same _ _ c.count_at_path-system.ensures (λ calls counts. record { right = tt; fault = c.fault_of-fault.ensures })
